@@ -1,0 +1,2 @@
+pub mod Shaving
+pub mod Totals
