@@ -1,2 +1,4 @@
 pub mod Shaving
 pub mod Totals
+pub mod Wider
+pub mod Balance

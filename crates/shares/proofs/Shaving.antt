@@ -60,10 +60,10 @@ length-shaved zero ws = refl
 length-shaved (suc k) ws = length-lowered (shaved k ws) ∙ length-shaved k ws
 
 -- a step takes from no column but the widest, and leaves that one at least 1
-getD-lowered-here : (ws : List ℕ) → 0 < length ws → getD (lowered ws) (widest (length ws) ws) 0 ≡ max 1 (getD ws (widest (length ws) ws) 0 - 1)
+pub getD-lowered-here : (ws : List ℕ) → 0 < length ws → getD (lowered ws) (widest (length ws) ws) 0 ≡ max 1 (getD ws (widest (length ws) ws) 0 - 1)
 getD-lowered-here ws h = getD-set-same ws (widest (length ws) ws) _ 0 (widest-within (length ws) ws h)
 
-getD-lowered-other : (ws : List ℕ) (j : ℕ) → j ≢ widest (length ws) ws → getD (lowered ws) j 0 ≡ getD ws j 0
+pub getD-lowered-other : (ws : List ℕ) (j : ℕ) → j ≢ widest (length ws) ws → getD (lowered ws) j 0 ≡ getD ws j 0
 getD-lowered-other ws j h = getD-set-other ws (widest (length ws) ws) j _ 0 h
 
 pub fed-lowered : (ws : List ℕ) → Fed ws → Fed (lowered ws)
