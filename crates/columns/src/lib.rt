@@ -17,8 +17,8 @@ ghost use Rattle.std.specs.shelf.Lists.{sum};
 ghost use Rattle.shares.specs.Shares.{Fed, Lowers, naturals, budget, shaved, stretched, shared};
 ghost use Rattle.std.specs.declared.result.Result.the-variants.{Ok};
 ghost use Rattle.columns.specs.Layout.{slots, answered, laid, filled, empty};
-use shares::MAX_COLUMNS;
-use shares::MAX_NATURAL;
+pub use shares::MAX_COLUMNS;
+pub use shares::MAX_NATURAL;
 
 // A table's columns on a page: `count` of the 32 slots are used, the others are 0.
 #[derive(Clone, Copy)]
