@@ -4,10 +4,10 @@ use mathlib.Core.Path.{_≡_, refl, sym, ap, _∙_}
 use Prim.Native.Nat.{ℕ, _-_, _^_}
 use Rattle.std.specs.declared.result.Result.{Result}
 use Rattle.std.specs.declared.result.Result.the-variants.{Ok, Err}
-use Rattle.script.specs.declared.faults.Fault.{Fault}
-use Rattle.script.specs.declared.faults.Fault.the-variants.{TooWide}
-use Rattle.script.specs.Numbers.{numberIn}
-use Rattle.script.specs.Outcomes.{andThen}
+use Rattle.words.specs.declared.faults.Fault.{Fault}
+use Rattle.words.specs.declared.faults.Fault.the-variants.{TooWide}
+use Rattle.words.specs.Numbers.{numberIn}
+use Rattle.words.specs.Outcomes.{andThen}
 use Rattle.script.specs.Shares.{naturalsIn}
 
 appended-more : (xs : List ℕ) (n : ℕ) (r : Result (List ℕ) Fault) → andThen (andThen r (λ ns. Ok (n ∷ ns))) (λ ns. Ok (xs ++ ns)) ≡ andThen r (λ ns. Ok ((xs ++ (n ∷ [])) ++ ns))

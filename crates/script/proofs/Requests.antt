@@ -10,10 +10,10 @@ use Rattle.std.proofs.shelf.Tests.{ne-eqb, cond-false}
 use Rattle.std.specs.shelf.Text.{sameBytes}
 use Rattle.std.specs.declared.result.Result.{Result}
 use Rattle.std.specs.declared.result.Result.the-variants.{Ok, Err}
-use Rattle.script.specs.declared.faults.Fault.{Fault}
-use Rattle.script.specs.declared.faults.Fault.the-variants.{UnknownCommand}
+use Rattle.words.specs.declared.faults.Fault.{Fault}
+use Rattle.words.specs.declared.faults.Fault.the-variants.{UnknownCommand}
 use Rattle.script.specs.Commands.{Request, nothing, found, commands, byName, requestIn}
-use Rattle.script.specs.Pieces.{wordsOf}
+use Rattle.words.specs.Pieces.{wordsOf}
 
 -- The word is none of a table's.
 abbrev pub Absent : {X : Type 0} → List ℕ → List (List ℕ × X) → Type 0

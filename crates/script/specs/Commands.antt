@@ -11,10 +11,10 @@ use Rattle.std.specs.declared.result.Result.{Result}
 use Rattle.std.specs.declared.result.Result.the-variants.{Ok, Err}
 use Rattle.script.specs.declared.Command.{Command}
 use Rattle.script.specs.declared.Command.the-variants as command
-use Rattle.script.specs.declared.faults.Fault.{Fault}
-use Rattle.script.specs.declared.faults.Fault.the-variants.{UnknownCommand}
-use Rattle.script.specs.Outcomes.{andThen}
-use Rattle.script.specs.Pieces.{wordsOf}
+use Rattle.words.specs.declared.faults.Fault.{Fault}
+use Rattle.words.specs.declared.faults.Fault.the-variants.{UnknownCommand}
+use Rattle.words.specs.Outcomes.{andThen}
+use Rattle.words.specs.Pieces.{wordsOf}
 use Rattle.script.specs.Shares as shares
 
 -- What a line asks for, with the numbers that it says.

@@ -1,7 +1,2 @@
 pub mod Commands
-pub mod Faults
-pub mod Input
-pub mod Numbers
-pub mod Outcomes
-pub mod Pieces
 pub mod Shares

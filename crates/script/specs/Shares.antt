@@ -13,12 +13,12 @@ use Rattle.columns.specs.declared.ColumnLayout.{ColumnLayout}
 use Rattle.columns.specs.declared.Refusal.{Refusal}
 use Rattle.columns.specs.declared.Refusal.the-variants as refusal
 use Rattle.columns.specs.Layout.{answered, laid}
-use Rattle.script.specs.declared.faults.Fault.{Fault}
-use Rattle.script.specs.declared.faults.Fault.the-variants.{MissingNumber, TooWide, TooManyColumns}
+use Rattle.words.specs.declared.faults.Fault.{Fault}
+use Rattle.words.specs.declared.faults.Fault.the-variants.{MissingNumber, TooWide, TooManyColumns}
 use Rattle.script.specs.declared.shares.ColumnsCommand.{ColumnsCommand}
-use Rattle.script.specs.Numbers.{numberIn}
-use Rattle.script.specs.Outcomes.{andThen}
-use Rattle.script.specs.Pieces.{leads, past}
+use Rattle.words.specs.Numbers.{numberIn}
+use Rattle.words.specs.Outcomes.{andThen}
+use Rattle.words.specs.Pieces.{leads, past}
 
 -- What a line asks for: the page width, whether the table is still growing, and the natural widths.
 pub record Asked : Type 0 where

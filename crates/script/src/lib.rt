@@ -13,29 +13,20 @@ ghost use Rattle.std.specs.Of.String.{string-bytes};
 ghost use Rattle.std.specs.Options.{mapped};
 ghost use Rattle.std.specs.Text.{Utf8};
 ghost use Rattle.std.specs.declared.result.Result.the-variants.{Err};
-ghost use Rattle.script.specs.declared.faults.Fault.the-variants.{NotText};
+ghost use Rattle.words.specs.declared.faults.Fault.the-variants.{NotText};
 ghost use Rattle.script.specs.Commands.{request, byName, requestIn, answerIn};
-ghost use Rattle.script.specs.Input.{body};
-ghost use Rattle.script.specs.Outcomes.{Gives};
-ghost use Rattle.script.specs.Pieces.{wordsLeft};
+ghost use Rattle.words.specs.Input.{body};
+ghost use Rattle.words.specs.Outcomes.{Gives};
+ghost use Rattle.words.specs.Pieces.{wordsLeft};
 
-mod faults;
-mod input;
-mod numbers;
 mod shares;
-mod words;
 
-pub use faults::Fault;
-pub use faults::FaultDebug;
-pub use faults::FaultDisplay;
-pub use faults::FaultEq;
-pub use faults::FaultPartialEq;
-pub use input::Trouble;
-pub use input::TroubleDisplay;
 pub use shares::ColumnsCommand;
 pub use shares::columns_line;
 use std::alloc::Global;
+use words::Fault;
 use words::Words;
+use words::text_of;
 
 // What a line asks for.
 #[derive(Drop)]
@@ -71,7 +62,7 @@ pub fn answer_line(heap: Global, raw: &[u8]) -> Result<Option<String>, Fault>
     ensures value { λ r. ⌜ (Utf8 (body (now (raw .entry))) → Gives (mapped string-bytes) r (answerIn (body (now (raw .entry))))) ⌝ }
     ensures refused { λ r. ⌜ ((Utf8 (body (now (raw .entry))) → ⊥) → r ≡ Err NotText) ⌝ }
 {
-    answer(heap, input::text_of(raw)?)
+    answer(heap, text_of(raw)?)
 }
 
 fn answer(heap: Global, line: &str) -> Result<Option<String>, Fault>

@@ -8,17 +8,20 @@ ghost use lib.ListN.{take};
 ghost use Rattle.std.specs.Of.String.{string-bytes};
 ghost use Rattle.std.specs.Of.Vec.{vec-items};
 ghost use Rattle.std.specs.declared.result.Result.the-variants.{Ok};
-ghost use Rattle.script.specs.Outcomes.{Gives};
-ghost use Rattle.script.specs.Pieces.{wordsLeft};
+ghost use Rattle.words.specs.Outcomes.{Gives};
+ghost use Rattle.words.specs.Pieces.{wordsLeft};
 ghost use Rattle.script.specs.Shares.{asked, naturalsIn, columnsIn, spaced, columnsLine, faultOf, sharesAnswer};
-use crate::faults::*;
-use crate::numbers::number;
-use crate::words::Words;
 use columns::ColumnLayout;
 use columns::MAX_COLUMNS;
 use columns::Refusal;
 use columns::share_columns;
 use std::alloc::Global;
+use words::Fault;
+use words::FaultFromAlloc;
+use words::FaultFromFormat;
+use words::FaultFromRefused;
+use words::Words;
+use words::number;
 
 #[derive(Drop)]
 pub struct ColumnsCommand {
@@ -28,14 +31,12 @@ pub struct ColumnsCommand {
 }
 
 // The limits on columns are those of the shares, which alone know them.
-pub impl From<Refusal> for Fault as FaultFromRefusal {
-    ghost converts = { λ e r. r ≡ faultOf e };
-
-    fn from(e: Refusal) -> Fault {
-        match e {
-            Refusal::TooManyColumns => Fault::TooManyColumns,
-            Refusal::TooWide(_) => Fault::TooWide,
-        }
+fn fault_of(e: Refusal) -> Fault
+    ensures { λ r. ⌜ r ≡ faultOf e ⌝ }
+{
+    match e {
+        Refusal::TooManyColumns => Fault::TooManyColumns,
+        Refusal::TooWide(_) => Fault::TooWide,
     }
 }
 
@@ -70,13 +71,11 @@ pub fn answer_columns(heap: Global, command: &ColumnsCommand) -> Result<String, 
     ensures { λ r. ⌜ Gives string-bytes r (sharesAnswer (asked (now (command .entry)))) ⌝ }
 {
     let mut layout = ColumnLayout::new();
-    share_columns(
-        command.width,
-        command.growing,
-        command.natural.as_slice(),
-        &mut layout,
-    )?;
-    columns_line(heap, command.width, &layout)
+    let natural = command.natural.as_slice();
+    match share_columns(command.width, command.growing, natural, &mut layout) {
+        Ok(()) => columns_line(heap, command.width, &layout),
+        Err(refusal) => Err(fault_of(refusal)),
+    }
 }
 
 // The line that tells a layout at a page width.

@@ -1,7 +1,7 @@
 // Lines that cannot be read.
-use script::Fault;
-use script::FaultDebug;
-use script::FaultPartialEq;
+use words::Fault;
+use words::FaultDebug;
+use words::FaultPartialEq;
 use script::answer_line;
 use std::alloc::Global;
 use std::test::*;

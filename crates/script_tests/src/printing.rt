@@ -1,11 +1,11 @@
 // What is printed.
 use columns::ColumnLayout;
 use columns::share_columns;
-use script::Fault;
-use script::FaultDebug;
-use script::FaultDisplay;
-use script::Trouble;
-use script::TroubleDisplay;
+use words::Fault;
+use words::FaultDebug;
+use words::FaultDisplay;
+use words::Trouble;
+use words::TroubleDisplay;
 use script::answer_line;
 use script::columns_line;
 use std::alloc::Global;

@@ -1,6 +1,6 @@
 // What a line asks for.
 use script::Command;
-use script::FaultDebug;
+use words::FaultDebug;
 use script::answer_line;
 use script::read_command;
 use std::alloc::Global;

@@ -5,7 +5,7 @@ use borrow.Author.Tests.{false-eqb}
 use Rattle.std.proofs.shelf.Patterns.{starts-char}
 use Rattle.std.proofs.shelf.Ways.{not-from-decides}
 use Rattle.script.specs.Commands.{request, byName}
-use Rattle.script.specs.Outcomes.{Gives}
+use Rattle.words.specs.Outcomes.{Gives}
 use Rattle.script.proofs.Requests.{asks-by-words}
 use Rattle.script.proofs.read_command.Needs as need
 

@@ -1,6 +1,6 @@
 use mathlib.Core.Path.{ap, _∙_}
 use Rattle.script.specs.Commands.{byName}
-use Rattle.script.specs.Pieces.{wordsLeft}
+use Rattle.words.specs.Pieces.{wordsLeft}
 use Rattle.script.proofs.Requests.{unknown}
 use Rattle.script.proofs.read_named.Needs as need
 

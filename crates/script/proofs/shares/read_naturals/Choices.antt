@@ -3,8 +3,8 @@ use mathlib.Core.Path.{_≡_}
 use lib.ListN.{length}
 use Rattle.std.specs.Of.Vec.{vec-items}
 use Rattle.std.specs.declared.result.Result.the-variants.{Ok}
-use Rattle.script.specs.Outcomes.{andThen}
-use Rattle.script.specs.Pieces.{wordsLeft}
+use Rattle.words.specs.Outcomes.{andThen}
+use Rattle.words.specs.Pieces.{wordsLeft}
 use Rattle.script.specs.Shares.{naturalsIn}
 use Rattle.script.proofs.shares.read_naturals.Given as given
 

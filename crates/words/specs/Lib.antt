@@ -1,0 +1,5 @@
+pub mod Faults
+pub mod Input
+pub mod Numbers
+pub mod Outcomes
+pub mod Pieces
