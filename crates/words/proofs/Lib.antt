@@ -1,3 +1,4 @@
 pub mod Ends
 pub mod Numerals
 pub mod Pieces
+pub mod Hex

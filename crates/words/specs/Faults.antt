@@ -3,7 +3,7 @@ use mathlib.Core.List.{List}
 use Prim.Native.Nat.{ℕ}
 use lib.Chars.{codes}
 use Rattle.words.specs.declared.faults.Fault.{Fault}
-use Rattle.words.specs.declared.faults.Fault.the-variants.{UnknownCommand, NotANumber, MissingNumber, TooLarge, TooWide, TooManyColumns, NotText, NoMemory}
+use Rattle.words.specs.declared.faults.Fault.the-variants.{UnknownCommand, NotANumber, MissingNumber, TooLarge, TooWide, TooManyColumns, NotBytes, MissingBytes, MissingName, UnknownName, TooManyWords, NotText, NoMemory}
 
 -- What is printed of a fault.
 abbrev pub faultWords : Fault → List ℕ
@@ -13,5 +13,10 @@ faultWords MissingNumber = codes "a number is missing"
 faultWords TooLarge = codes "a number is too large"
 faultWords TooWide = codes "too wide"
 faultWords TooManyColumns = codes "too many columns"
+faultWords NotBytes = codes "not a byte string"
+faultWords MissingBytes = codes "a byte string is missing"
+faultWords MissingName = codes "a name is missing"
+faultWords UnknownName = codes "unknown name"
+faultWords TooManyWords = codes "too many words"
 faultWords NotText = codes "not text"
 faultWords NoMemory = codes "out of memory"

@@ -15,6 +15,11 @@ pub enum Fault {
     TooLarge,
     TooWide,
     TooManyColumns,
+    NotBytes,
+    MissingBytes,
+    MissingName,
+    UnknownName,
+    TooManyWords,
     NotText,
     NoMemory,
 }
@@ -30,6 +35,11 @@ impl Fault {
             Fault::TooLarge => "a number is too large",
             Fault::TooWide => "too wide",
             Fault::TooManyColumns => "too many columns",
+            Fault::NotBytes => "not a byte string",
+            Fault::MissingBytes => "a byte string is missing",
+            Fault::MissingName => "a name is missing",
+            Fault::UnknownName => "unknown name",
+            Fault::TooManyWords => "too many words",
             Fault::NotText => "not text",
             Fault::NoMemory => "out of memory",
         }
