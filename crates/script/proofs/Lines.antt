@@ -15,7 +15,7 @@ use Rattle.script.specs.Shares.{spaced}
 pub spaced-more : (ns before after : List ℕ) (i : ℕ) → i < length ns → before ≡ spaced (take i ns) → after ≡ before ++ (32 ∷ decimal (getD ns i 0)) → after ≡ spaced (take (i + 1) ns)
 spaced-more ns before after i h e f =
     f ∙ (ap (λ (l : List ℕ). l ++ (32 ∷ decimal (getD ns i 0))) e
-      ∙ (joined-more (λ (n : ℕ). 32 ∷ decimal n) [] (take i ns) (getD ns i 0) ∙ ap spaced (sym (take-more ns i 0 h))))
+    ∙ (joined-more (λ (n : ℕ). 32 ∷ decimal n) [] (take i ns) (getD ns i 0) ∙ ap spaced (sym (take-more ns i 0 h))))
 
 pub spaced-all : (ns : List ℕ) (i : ℕ) → length ns ≤ i → spaced ns ≡ spaced (take i ns)
 spaced-all ns i h = ap spaced (sym (take-all i ns h))

@@ -1,10 +1,10 @@
 // Lines that cannot be read.
-use words::Fault;
-use words::FaultDebug;
-use words::FaultPartialEq;
 use script::answer_line;
 use std::alloc::Global;
 use std::test::*;
+use words::Fault;
+use words::FaultDebug;
+use words::FaultPartialEq;
 
 fn refuses(heap: Global, raw: &[u8], fault: Fault) -> Result<(), Fail> {
     match answer_line(heap, raw) {

@@ -1,15 +1,15 @@
 // What is printed.
 use columns::ColumnLayout;
 use columns::share_columns;
+use script::answer_line;
+use script::columns_line;
+use std::alloc::Global;
+use std::test::*;
 use words::Fault;
 use words::FaultDebug;
 use words::FaultDisplay;
 use words::Trouble;
 use words::TroubleDisplay;
-use script::answer_line;
-use script::columns_line;
-use std::alloc::Global;
-use std::test::*;
 
 // A layout of so many columns, the first three 5, 10 and 65,535 cells wide.
 fn layout(count: u8) -> ColumnLayout {

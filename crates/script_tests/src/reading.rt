@@ -1,10 +1,10 @@
 // What a line asks for.
 use script::Command;
-use words::FaultDebug;
 use script::answer_line;
 use script::read_command;
 use std::alloc::Global;
 use std::test::*;
+use words::FaultDebug;
 
 fn reads(heap: Global, line: &str, width: u16, growing: bool, natural: &[u32]) -> Result<(), Fail> {
     match read_command(heap, line)? {

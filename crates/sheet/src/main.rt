@@ -2,12 +2,12 @@
 //
 // A line that cannot be read is told by its number and passed over, and the run then ends with status 1.
 // What a line leads to is `script::answer_line`; nothing is decided here but the end of the input and the status.
-use words::Trouble;
-use words::TroubleDisplay;
 use script::answer_line;
 use std::error::AnyError;
 use std::io::BufRead;
 use std::io::BufReader;
+use words::Trouble;
+use words::TroubleDisplay;
 
 fn main(rt: LibcRuntime) -> Result<(), AnyError> {
     let heap = rt.alloc();

@@ -1,9 +1,10 @@
 -- Byte strings in a line, and numbers and byte strings taken off a line's words.
 use mathlib.Core.Bool.{Bool, cond, _&&_, _||_}
 use mathlib.Core.List.{List, [], _∷_}
-use Prim.Native.Nat.{ℕ, _+_, _-_, _*_}
+use Prim.Native.Nat.{ℕ, _+_, _-_, _*_, _/_, _%_}
 use lib.Chars.{codes}
 use lib.Dec.{leb}
+use Rattle.std.specs.Joined.{joined}
 use Rattle.std.specs.shelf.Text.{sameBytes}
 use Rattle.std.specs.declared.result.Result.{Result}
 use Rattle.std.specs.declared.result.Result.the-variants.{Ok, Err}
@@ -45,3 +46,16 @@ firstBytes (w ∷ ws) = bytesIn w
 abbrev pub ended : List (List ℕ) → Result (Unit {0}) Fault
 ended [] = Ok tt
 ended (w ∷ ws) = Err TooManyWords
+
+-- A hexadecimal digit of a value below 16.
+abbrev pub hexDigit : ℕ → ℕ
+hexDigit n = cond (leb n 9) (48 + n) (87 + n)
+
+-- Bytes as pairs of hexadecimal digits.
+abbrev pub hexOf : List ℕ → List ℕ
+hexOf bs = joined (λ b. hexDigit (b / 16) ∷ hexDigit (b % 16) ∷ []) bs
+
+-- A byte string as it is printed: `-` for the empty one.
+abbrev pub hexText : List ℕ → List ℕ
+hexText [] = codes "-"
+hexText (b ∷ bs) = hexOf (b ∷ bs)

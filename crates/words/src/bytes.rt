@@ -1,10 +1,13 @@
 // Words that are byte strings: pairs of lowercase hexadecimal digits, or `-` for the empty string.
 ghost use mathlib.Core.Path.{_≡_};
 ghost use mathlib.Core.Bool.{cond, _&&_};
-ghost use Prim.Native.Nat.{_+_, _*_, _<_};
+ghost use Prim.Native.Nat.{_+_, _*_, _/_, _%_, _<_};
+ghost use mathlib.Core.List.{[], _∷_, _++_};
+ghost use Rattle.std.specs.Of.String.{string-bytes};
 ghost use Rattle.std.specs.Of.Vec.{vec-items};
+ghost use Rattle.std.specs.Vec.{made};
 ghost use Rattle.std.specs.declared.option.Option.the-variants.{Some, None};
-ghost use Rattle.words.specs.Bytes.{isHex, hexValue, hexIn, bytesIn};
+ghost use Rattle.words.specs.Bytes.{isHex, hexValue, hexIn, bytesIn, hexDigit, hexOf, hexText};
 ghost use Rattle.words.specs.Outcomes.{Gives};
 use crate::faults::*;
 use std::alloc::Global;
@@ -56,4 +59,45 @@ pub fn bytes(heap: Global, word: &str) -> Result<Vec<u8>, Fault>
         return Ok(Vec::new(heap));
     }
     hex_bytes(heap, word.as_bytes())
+}
+
+fn hex_digit(value: u8) -> char
+    requires { ⌜ value < 16 ⌝ }
+    ensures value { λ r. ⌜ r ≡ hexDigit value ⌝ }
+    ensures bound { λ r. ⌜ r < 128 ⌝ }
+{
+    if value <= 9 {
+        (b'0' + value) as char
+    } else {
+        (b'a' + (value - 10)) as char
+    }
+}
+
+// A byte as two hexadecimal digits behind a text.
+fn push_byte(text: &mut String, byte: u8) -> Result<(), Fault>
+    ensures { λ r. ⌜ made r (λ _. string-bytes (now (text .exit)) ≡ string-bytes (now (text .entry)) ++ (hexDigit (byte / 16) ∷ hexDigit (byte % 16) ∷ [])) ⌝ }
+{
+    text.push(hex_digit(byte / 16))?;
+    text.push(hex_digit(byte % 16))?;
+    Ok(())
+}
+
+fn hex_of(heap: Global, bytes: &[u8]) -> Result<String, Fault>
+    ensures { λ r. ⌜ made r (λ s. string-bytes s ≡ hexOf (now (bytes .entry))) ⌝ }
+{
+    let mut text = String::new(heap);
+    for b in bytes {
+        push_byte(&mut text, *b)?;
+    }
+    Ok(text)
+}
+
+// A byte string as it is printed.
+pub fn hex_text(heap: Global, bytes: &[u8]) -> Result<String, Fault>
+    ensures { λ r. ⌜ made r (λ s. string-bytes s ≡ hexText (now (bytes .entry))) ⌝ }
+{
+    if bytes.is_empty() {
+        return Ok(String::from_str(heap, "-")?);
+    }
+    hex_of(heap, bytes)
 }

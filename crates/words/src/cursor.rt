@@ -9,7 +9,6 @@ ghost use Rattle.std.specs.Vec.{made};
 ghost use Rattle.words.specs.Bytes.{firstNumber, firstBytes, ended};
 ghost use Rattle.words.specs.Outcomes.{Gives};
 ghost use Rattle.words.specs.Pieces.{wordsOf, wordsIn, wordsLeft, leads, past};
-
 use crate::bytes::bytes;
 use crate::faults::Fault;
 use crate::numbers::number;

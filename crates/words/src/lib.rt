@@ -8,6 +8,7 @@ mod faults;
 mod input;
 mod numbers;
 
+pub use bytes::hex_text;
 pub use cursor::Words;
 pub use faults::Fault;
 pub use faults::FaultDebug;
