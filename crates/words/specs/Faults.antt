@@ -3,7 +3,7 @@ use mathlib.Core.List.{List}
 use Prim.Native.Nat.{ℕ}
 use lib.Chars.{codes}
 use Rattle.words.specs.declared.faults.Fault.{Fault}
-use Rattle.words.specs.declared.faults.Fault.the-variants.{UnknownCommand, NotANumber, MissingNumber, TooLarge, TooWide, TooManyColumns, NotBytes, MissingBytes, MissingName, UnknownName, TooManyWords, NotText, NoMemory}
+use Rattle.words.specs.declared.faults.Fault.the-variants.{UnknownCommand, NotANumber, MissingNumber, TooLarge, TooWide, TooNarrow, TooManyColumns, NotBytes, MissingBytes, MissingName, UnknownName, TooManyWords, NotText, NoMemory}
 
 -- What is printed of a fault.
 abbrev pub faultWords : Fault → List ℕ
@@ -12,6 +12,7 @@ faultWords NotANumber = codes "not a number"
 faultWords MissingNumber = codes "a number is missing"
 faultWords TooLarge = codes "a number is too large"
 faultWords TooWide = codes "too wide"
+faultWords TooNarrow = codes "too narrow"
 faultWords TooManyColumns = codes "too many columns"
 faultWords NotBytes = codes "not a byte string"
 faultWords MissingBytes = codes "a byte string is missing"

@@ -1,0 +1,5 @@
+pub mod Ranges
+pub mod Cutting
+pub mod ByteLaws
+pub mod Spelling
+pub mod Decoding

@@ -1,0 +1,3 @@
+pub mod Widths
+pub mod Texts
+pub mod Cuts

@@ -1,0 +1,77 @@
+// What a script has set up so far, and the commands that work on it.
+use crate::stops::*;
+use crate::texts;
+use crate::texts::RuleName;
+use crate::texts::RulerName;
+use script::answer_line;
+use words::Fault;
+use words::Words;
+use words::text_of;
+
+#[derive(Drop)]
+pub struct Desk {
+    ruler: RulerName,
+    rule: RuleName,
+}
+
+impl Desk {
+    pub fn new() -> Desk {
+        Desk {
+            ruler: RulerName::Utf8,
+            rule: RuleName::Word,
+        }
+    }
+
+    // Carries one line out, and prints its answer.
+    pub fn take(&mut self, rt: &LibcRuntime, raw: &[u8]) -> Result<(), Stop> {
+        let mut words = Words::new(text_of(raw)?);
+        let Some(name) = words.next_word() else {
+            return Ok(());
+        };
+        match name {
+            "ruler" => self.set_ruler(rt, words),
+            "measure" => texts::measure(rt, self.ruler, words),
+            "glyphs" => texts::glyphs(rt, self.ruler, words),
+            "rule" => self.set_rule(rt, words),
+            "rows" => texts::rows(rt, self.ruler, self.rule, words),
+            "cook" => texts::cook(rt, words),
+            _ => other(rt, raw),
+        }
+    }
+
+    fn set_ruler(&mut self, rt: &LibcRuntime, mut words: Words) -> Result<(), Stop> {
+        let ruler = match words.next_word() {
+            Some("byte") => RulerName::Byte,
+            Some("utf8") => RulerName::Utf8,
+            Some(_) => return Err(Stop::Line(Fault::UnknownName)),
+            None => return Err(Stop::Line(Fault::MissingName)),
+        };
+        words.end()?;
+        self.ruler = ruler;
+        let name = ruler.name();
+        println!(rt, "ruler {name}")?;
+        Ok(())
+    }
+
+    fn set_rule(&mut self, rt: &LibcRuntime, mut words: Words) -> Result<(), Stop> {
+        let rule = match words.next_word() {
+            Some("word") => RuleName::Word,
+            Some("cutting") => RuleName::Cutting,
+            Some(_) => return Err(Stop::Line(Fault::UnknownName)),
+            None => return Err(Stop::Line(Fault::MissingName)),
+        };
+        words.end()?;
+        self.rule = rule;
+        let name = rule.name();
+        println!(rt, "rule {name}")?;
+        Ok(())
+    }
+}
+
+// The commands that need nothing set up.
+fn other(rt: &LibcRuntime, raw: &[u8]) -> Result<(), Stop> {
+    if let Some(answer) = answer_line(rt.alloc(), raw)? {
+        rt.println(answer)?;
+    }
+    Ok(())
+}

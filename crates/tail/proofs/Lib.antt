@@ -1,0 +1,14 @@
+mod Examples
+mod Endings
+mod Spelling
+mod Trims
+mod Ends
+mod Verdicts
+mod Repairs
+mod Pastes
+mod Splits
+mod Steps
+mod Classes
+mod Marks
+mod Rows
+mod Pieces
