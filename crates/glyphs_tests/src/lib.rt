@@ -118,87 +118,103 @@ mod tests {
         Ok(())
     }
 
-    // Whether the byte ruler alone admits the text.
-    fn is_no_text(text: &[u8]) -> bool {
-        !Utf8.admits(text) && Bytes.admits(text)
-    }
+    // Overlong forms, surrogates, what lies above the last code point, truncated sequences, and stray bytes.
+    const MALFORMED: [&[u8]; 18] = [
+        b"\xC0\x80",
+        b"\xC1\xBF",
+        b"\xE0\x80\x80",
+        b"\xE0\x9F\xBF",
+        b"\xF0\x80\x80\x80",
+        b"\xF0\x8F\xBF\xBF",
+        b"\xED\xA0\x80",
+        b"\xED\xBF\xBF",
+        b"\xF4\x90\x80\x80",
+        b"\xF5\x80\x80\x80",
+        b"\xF8\x88\x80\x80\x80",
+        b"\xFF",
+        b"\xC3",
+        b"\xE3\x81",
+        b"\xF0\x9F\x98",
+        b"\xE3\x81a",
+        b"\x80",
+        b"a\xBF",
+    ];
 
     #[test]
-    fn overlong_forms_are_no_text() -> Result<(), Fail> {
-        check(is_no_text(b"\xC0\x80"))?;
-        check(is_no_text(b"\xC1\xBF"))?;
-        check(is_no_text(b"\xE0\x80\x80"))?;
-        check(is_no_text(b"\xE0\x9F\xBF"))?;
-        check(is_no_text(b"\xF0\x80\x80\x80"))?;
-        check(is_no_text(b"\xF0\x8F\xBF\xBF"))
-    }
-
-    #[test]
-    fn surrogates_and_what_lies_above_the_last_code_point_are_no_text() -> Result<(), Fail> {
-        check(is_no_text(b"\xED\xA0\x80"))?;
-        check(is_no_text(b"\xED\xBF\xBF"))?;
-        check(is_no_text(b"\xF4\x90\x80\x80"))?;
-        check(is_no_text(b"\xF5\x80\x80\x80"))?;
-        check(is_no_text(b"\xF8\x88\x80\x80\x80"))?;
-        check(is_no_text(b"\xFF"))
-    }
-
-    #[test]
-    fn truncated_sequences_are_no_text() -> Result<(), Fail> {
-        check(is_no_text(b"\xC3"))?;
-        check(is_no_text(b"\xE3\x81"))?;
-        check(is_no_text(b"\xF0\x9F\x98"))?;
-        check(is_no_text(b"\xE3\x81a"))?;
-        check(is_no_text(b"\x80"))?;
-        check(is_no_text(b"a\xBF"))?;
+    fn malformed_bytes_are_no_text() -> Result<(), Fail> {
+        for text in &MALFORMED {
+            check(!Utf8.admits(text) && Bytes.admits(text))?;
+        }
         check(Utf8.admits(b""))
     }
 
-    #[test]
-    fn marks_join_a_base_of_one_byte_up_to_three() -> Result<(), Fail> {
-        check(cuts_into(&Utf8, b"a\xCC\x81", &[(3, 1)]))?;
-        check(cuts_into(&Utf8, b"a\xCC\x81\xCC\x80", &[(5, 1)]))?;
-        check(cuts_into(&Utf8, b"a\xCC\x81\xCC\x80\xCD\xAF", &[(7, 1)]))?;
-        check(cuts_into(
-            &Utf8,
-            b"a\xCC\x81\xCC\x80\xCD\xAF\xCC\x81b",
-            &[(7, 1), (2, 0), (1, 1)],
-        ))
+    // A text, and the lengths and widths of its clusters.
+    #[derive(Clone, Copy)]
+    struct Case {
+        text: &'static [u8],
+        clusters: &'static [(usize, u8)],
     }
 
-    #[test]
-    fn marks_join_longer_bases_up_to_eight_bytes() -> Result<(), Fail> {
-        check(cuts_into(&Utf8, b"\xC3\xA9\xCC\x81\xCC\x81\xCC\x81", &[(8, 1)]))?;
-        check(cuts_into(
-            &Utf8,
-            b"\xC3\xA9\xCC\x81\xCC\x81\xCC\x81\xCC\x81",
-            &[(8, 1), (2, 0)],
-        ))?;
-        check(cuts_into(&Utf8, b"\xE3\x81\x82\xCC\x81\xCC\x81", &[(7, 2)]))?;
-        check(cuts_into(
-            &Utf8,
-            b"\xE3\x81\x82\xCC\x81\xCC\x81\xCC\x81\xCC\x81",
-            &[(7, 2), (4, 0)],
-        ))?;
-        check(cuts_into(&Utf8, b"\xF0\x9F\x91\xA8\xCC\x81\xCC\x81", &[(8, 1)]))?;
-        check(cuts_into(
-            &Utf8,
-            b"\xF0\x9F\x91\xA8\xCC\x81\xCC\x81\xCC\x81",
-            &[(8, 1), (2, 0)],
-        ))
-    }
+    const MARKED: [Case; 12] = [
+        // a base of one byte takes up to three marks
+        Case {
+            text: b"a\xCC\x81",
+            clusters: &[(3, 1)],
+        },
+        Case {
+            text: b"a\xCC\x81\xCC\x80",
+            clusters: &[(5, 1)],
+        },
+        Case {
+            text: b"a\xCC\x81\xCC\x80\xCD\xAF",
+            clusters: &[(7, 1)],
+        },
+        Case {
+            text: b"a\xCC\x81\xCC\x80\xCD\xAF\xCC\x81b",
+            clusters: &[(7, 1), (2, 0), (1, 1)],
+        },
+        // one of two bytes three, of three bytes two, of four bytes two
+        Case {
+            text: b"\xC3\xA9\xCC\x81\xCC\x81\xCC\x81",
+            clusters: &[(8, 1)],
+        },
+        Case {
+            text: b"\xC3\xA9\xCC\x81\xCC\x81\xCC\x81\xCC\x81",
+            clusters: &[(8, 1), (2, 0)],
+        },
+        Case {
+            text: b"\xE3\x81\x82\xCC\x81\xCC\x81\xCC\x81\xCC\x81",
+            clusters: &[(7, 2), (4, 0)],
+        },
+        Case {
+            text: b"\xF0\x9F\x91\xA8\xCC\x81\xCC\x81\xCC\x81",
+            clusters: &[(8, 1), (2, 0)],
+        },
+        // a leading mark, a control, and a code point of no width
+        Case {
+            text: b"\xCC\x81\xCC\x81a",
+            clusters: &[(4, 0), (1, 1)],
+        },
+        Case {
+            text: b"\n\xCC\x81",
+            clusters: &[(1, 0), (2, 0)],
+        },
+        Case {
+            text: b"\xC2\x85\xCC\x81",
+            clusters: &[(2, 0), (2, 0)],
+        },
+        Case {
+            text: b"\xE2\x80\x8B\xCC\x81",
+            clusters: &[(5, 0)],
+        },
+    ];
 
     #[test]
-    fn a_leading_mark_is_a_cluster_of_no_width() -> Result<(), Fail> {
-        check(cuts_into(&Utf8, b"\xCC\x81", &[(2, 0)]))?;
-        check(cuts_into(&Utf8, b"\xCC\x81\xCC\x81a", &[(4, 0), (1, 1)]))
-    }
-
-    #[test]
-    fn a_control_takes_no_mark() -> Result<(), Fail> {
-        check(cuts_into(&Utf8, b"\n\xCC\x81", &[(1, 0), (2, 0)]))?;
-        check(cuts_into(&Utf8, b"\xC2\x85\xCC\x81", &[(2, 0), (2, 0)]))?;
-        check(cuts_into(&Utf8, b"\xE2\x80\x8B\xCC\x81", &[(5, 0)]))
+    fn marks_join_what_they_fit_to() -> Result<(), Fail> {
+        for case in &MARKED {
+            check(cuts_into(&Utf8, case.text, case.clusters))?;
+        }
+        Ok(())
     }
 
     #[test]

@@ -1,4 +1,8 @@
 // What a script has set up so far, and the commands that work on it.
+use crate::pages;
+use crate::pages::Act;
+use crate::pages::Page;
+use crate::pages::Part;
 use crate::stops::*;
 use crate::texts;
 use crate::texts::RuleName;
@@ -12,6 +16,8 @@ use words::text_of;
 pub struct Desk {
     ruler: RulerName,
     rule: RuleName,
+    page: Page,
+    window: Option<Part>,
 }
 
 impl Desk {
@@ -19,6 +25,8 @@ impl Desk {
         Desk {
             ruler: RulerName::Utf8,
             rule: RuleName::Word,
+            page: Page::Missing,
+            window: None,
         }
     }
 
@@ -35,6 +43,33 @@ impl Desk {
             "rule" => self.set_rule(rt, words),
             "rows" => texts::rows(rt, self.ruler, self.rule, words),
             "cook" => texts::cook(rt, words),
+            _ => self.take_page(rt, raw, name, words),
+        }
+    }
+
+    // The commands on pages, and then those that need nothing set up.
+    fn take_page(
+        &mut self,
+        rt: &LibcRuntime,
+        raw: &[u8],
+        name: &str,
+        words: Words,
+    ) -> Result<(), Stop> {
+        match name {
+            "grid" => pages::grid(rt, &mut self.page, words),
+            "shelf" => pages::shelf(rt, &mut self.page, words),
+            "open" => pages::open(rt, &mut self.page, words),
+            "open-file" => pages::open_file(rt, &mut self.page, words),
+            "save" => pages::save(rt, &self.page, words),
+            "bytes" => pages::bytes(rt, &self.page, words),
+            "window" => {
+                self.window = pages::read_window(rt, words)?;
+                Ok(())
+            }
+            "put" | "read" | "cells" | "show" => {
+                let act = read_act(rt, name, words)?;
+                pages::do_act(rt, &mut self.page, self.window, name, act)
+            }
             _ => other(rt, raw),
         }
     }
@@ -65,6 +100,21 @@ impl Desk {
         let name = rule.name();
         println!(rt, "rule {name}")?;
         Ok(())
+    }
+}
+
+fn read_act(rt: &LibcRuntime, name: &str, words: Words) -> Result<Act, Fault> {
+    match name {
+        "put" => pages::read_put(rt.alloc(), words),
+        "read" => pages::read_read(words),
+        "cells" => {
+            words.end()?;
+            Ok(Act::Cells)
+        }
+        _ => {
+            words.end()?;
+            Ok(Act::Show)
+        }
     }
 }
 

@@ -2,6 +2,7 @@
 //
 // A line that cannot be read is told by its number and passed over, and the run then ends with status 1.
 mod desk;
+mod pages;
 mod stops;
 mod texts;
 

@@ -117,17 +117,6 @@ impl Symbol {
         }
     }
 
-    // The byte at a place, 0 past the last.
-    pub fn byte(self, i: usize) -> u8
-        ensures value { λ r. ⌜ r ≡ getD (bytesOf self) i 0 ⌝ }
-    {
-        if i < Symbol::MAX_LEN && i < self.len as usize {
-            self.to_bytes()[i]
-        } else {
-            0
-        }
-    }
-
     // The number's eight bytes: the symbol's, padded with 0.
     pub fn to_bytes(self) -> [u8; 8]
         ensures value { λ r. ⌜ r ≡ unpacked 8 (self .bytes) ⌝ }
