@@ -22,7 +22,7 @@ pub data Request : Type 0 where
   nothing : Request
   columns : shares.Asked → Request
 
--- The request of a command that was read.
+-- What a command that was read asks for.
 abbrev pub request : Command → Request
 request command.Nothing = nothing
 request (command.Columns c) = columns (shares.asked c)
