@@ -272,11 +272,10 @@ fn through<S: Surface + Drop>(
 ) -> Result<(), Stop> {
     match window {
         None => perform(rt, page, act),
-        Some(part) => perform(
-            rt,
-            Window::new(page, part.x, part.y, part.width, part.height),
-            act,
-        ),
+        Some(Part { x, y, width, height }) => {
+            let window = Window { below: page, x, y, width, height };
+            perform(rt, window, act)
+        }
     }
 }
 
