@@ -272,8 +272,21 @@ fn through<S: Surface + Drop>(
 ) -> Result<(), Stop> {
     match window {
         None => perform(rt, page, act),
-        Some(Part { x, y, width, height }) => {
-            let window = Window { below: page, x, y, width, height };
+        Some(
+            Part {
+                x,
+                y,
+                width,
+                height,
+            },
+        ) => {
+            let window = Window {
+                below: page,
+                x,
+                y,
+                width,
+                height,
+            };
             perform(rt, window, act)
         }
     }
