@@ -3,6 +3,9 @@
 //! White space is Unicode's: U+0009 to 000D, 0020, 0085, 00A0, 1680, 2000 to 200A, 2028, 2029, 202F,
 //! 205F and 3000. The main promise: the answer is yes exactly where the bytes are text and every
 //! character of it is white space; no bytes at all are such a text.
+
+#![tactic(auto)]
+
 ghost use Rattle.std.specs.Prelude.{◌≡◌, true};
 ghost use Rattle.std.specs.Str.{chars};
 ghost use Rattle.clusters.specs.Texts.{is_text};

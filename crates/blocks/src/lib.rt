@@ -3,6 +3,9 @@
 //! A sheet that is being written can be told in two ways: as records in memory, and as lists of glyphs,
 //! lines and blocks. The main promise: after any acts, and wherever the records suffice, the blocks read
 //! from memory are those of the lists.
+
+#![tactic(auto)]
+
 ghost use Rattle.blocks.specs.Stands.{MemoryShowsDraft};
 
 // The law that ties the records to the lists.

@@ -5,6 +5,8 @@
 // stand in one another), then by the ruler, where its text is measured. After the last event no mark
 // may be open. The main promise: the answer tells the first fault, by the number of its event.
 
+#![tactic(auto)]
+
 ghost use Rattle.std.specs.Prelude.{◌≡◌, []};
 ghost use Rattle.stack.specs.Stacks.{held};
 ghost use Rattle.events.specs.Cursors.{left};

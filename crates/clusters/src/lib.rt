@@ -6,6 +6,9 @@
 //!
 //! The main promise: for every byte string and every place in it, a look at a few bytes finds exactly
 //! the cluster that the rule gives there. Whether bytes are text at all is left to `from_utf8`.
+
+#![tactic(auto)]
+
 ghost use Rattle.std.specs.Prelude.{◌≡◌, ◌-◌, ◌≤◌, ◌&&◌, ◌∷◌, drop, if◌then◌else◌, IsUtf8, MatchBool, nat_le, slice_index};
 ghost use Rattle.std.specs.Char.{len_utf8};
 ghost use Rattle.std.specs.Str.{chars};

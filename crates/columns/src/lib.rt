@@ -7,6 +7,9 @@
 //!
 //! The main promise: `share_columns` fills the lent layout with exactly the shares that this rule
 //! gives, for every page width and every list of widths, or refuses and leaves it as it was.
+
+#![tactic(auto)]
+
 ghost use Rattle.std.specs.Prelude.{◌≡◌, ℕ, ◌+◌, ◌-◌, ◌*◌, ◌^◌, ◌<◌, ◌≤◌, map, length, if◌then◌else◌, Ok, sum, nat_lt, slice_index};
 ghost use Rattle.shares.specs.Shares.{Fed, Lowers, naturals, budget, shaved, stretched, shared};
 ghost use Rattle.columns.specs.Layout.{slots, answered, laid, filled, empty};

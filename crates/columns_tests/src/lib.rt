@@ -1,4 +1,7 @@
 //! Examples for the crate `columns`: the worked tables, each refusal at its edge, and shares that look right and are not.
+
+#![tactic(auto)]
+
 use columns::{ColumnLayout, Refusal, share_columns};
 
 #[cfg(test)]

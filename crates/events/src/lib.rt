@@ -5,6 +5,8 @@
 // main promise: every number means the kind that the rule gives it and no other number means one, and
 // a cursor gives the events in order and always names the one where it stopped.
 
+#![tactic(auto)]
+
 pub use cursor::Cursor;
 pub use event::{Event, Kind, Tag, kind_of};
 pub use refusal::{Amount, Refusal};

@@ -4,6 +4,9 @@
 //! what stands on the sheet; then it may move the fold to another place in the tags, and lay a style
 //! on the stack or take one away. The main promise: after all events the records are those that the
 //! acts make, one after the other, from the records before them.
+
+#![tactic(auto)]
+
 mod measure;
 pub mod mode;
 mod perform;

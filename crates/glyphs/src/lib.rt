@@ -7,6 +7,9 @@
 //!
 //! The main promise: for every ruler, text and style, `sanitize` writes exactly the glyphs that this
 //! rule gives, and nothing else in the memory changes. `count_glyphs` tells their number beforehand.
+
+#![tactic(auto)]
+
 ghost use Rattle.std.specs.Prelude.{◌≡◌, ◌+◌, ◌-◌, ◌^◌, ◌<◌, ◌≤◌, min, true, length, drop, IfSome, MatchOption};
 ghost use Rattle.std.specs.List.{AllByRecursion as All};
 ghost use Rattle.style.specs.declared.Style.{Style as Look};

@@ -1,5 +1,8 @@
 //! Examples for the crates `clusters` and `glyphs`: every edge of the width ranges, what is text and what
 //! is not, marks around the limit of 8 bytes, and glyphs in lent memory.
+
+#![tactic(auto)]
+
 use clusters::columns;
 use glyphs::{Bytes, Glyph, Ruler, Utf8, count_glyphs, cut_at, sanitize};
 use style::{Style, Symbol};

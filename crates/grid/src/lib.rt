@@ -4,6 +4,8 @@
 // make such a page, `new` makes it, all cells fresh. Its main promise: a put changes one lent cell, as
 // the rule of a put says, and nothing else.
 
+#![tactic(auto)]
+
 ghost use Rattle.std.specs.Prelude.{◌≡◌, ℕ, ◌+◌, ◌*◌, length, replicate, is_ok, if◌then◌else◌};
 ghost use Rattle.style.specs.Symbols.{symbol_of};
 ghost use Rattle.page.specs.Cells.{fresh};

@@ -4,6 +4,9 @@
 //! lines at the end of each stretch. The main promises: an admitted load counts exactly the glyphs,
 //! lines, rows and tables that these account for; every row of a table has an entry for each of its
 //! columns; no block is an empty text.
+
+#![tactic(auto)]
+
 ghost use Rattle.laws.specs.Stands.{CountsItsBlocks, SettlingLosesEmptyLines, RowsAreEven, TextsAreSolid};
 
 pub fn counts_its_blocks() -> u8

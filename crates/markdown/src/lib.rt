@@ -5,6 +5,9 @@
 //! anything. The main promise: the answer is a function of styles, events, text, source, the ruler's
 //! meaning and the lent lengths alone; on a refusal nothing changes, lent memory included; on success
 //! the blocks read from memory are those of the definition over lists.
+
+#![tactic(auto)]
+
 ghost use Rattle.std.specs.Prelude.{◌≡◌, false, [], length, is_ok};
 ghost use Rattle.records.specs.Views.{memory_of};
 ghost use Rattle.blocks.specs.Reads.{blocks_of};

@@ -1,4 +1,7 @@
 //! Examples for the crate `markdown`: each branch of the fold alone, and what a refusal leaves.
+
+#![tactic(auto)]
+
 use events::event::Event;
 use events::styles::MarkdownStyles;
 use glyphs::{Bytes, Glyph};

@@ -7,6 +7,8 @@
 // and reads on to the cell below that they show. The main promise is one contract for all of these: what
 // is proved of a put holds on every pile of surfaces, and of the pages below it, hidden cells included.
 
+#![tactic(auto)]
+
 ghost use Rattle.std.specs.Prelude.{◌≡◌, ℕ, List};
 ghost use Rattle.page.specs.declared.cells.Cell.{Cell};
 ghost use Rattle.page.specs.Surfaces.{Page, read_at, Put};

@@ -1,5 +1,7 @@
 // Tests of pages, and two functions that show what a caller knows of the surfaces below a layer.
 
+#![tactic(auto)]
+
 #[cfg(test)]
 mod damage;
 #[cfg(test)]

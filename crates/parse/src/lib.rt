@@ -5,6 +5,9 @@
 //! sheet; its blocks are these, with the empty lines at the end of each stretch gone. The main promise:
 //! wherever the records suffice, the fold leaves exactly these blocks in memory, and in whatever memory
 //! it counts exactly what the events need.
+
+#![tactic(auto)]
+
 ghost use Rattle.parse.specs.Stands.{FoldShows, FoldCounts};
 
 // The law that ties the fold's records to the lists.

@@ -6,6 +6,9 @@
 //! head, a row, the table; and at last flush the text. The main promise: each call does its act, and
 //! nothing else. Writing past the end of the memory does nothing, and the counts go on counting, so
 //! that memory without a place can be used to count.
+
+#![tactic(auto)]
+
 pub mod kinds;
 pub mod read;
 pub mod write;

@@ -8,6 +8,9 @@
 //
 // A further command costs a case of `Command`, a reading function in the module of its topic, and an arm in `read_named`
 // and in `answer`.
+
+#![tactic(auto)]
+
 ghost use Rattle.std.specs.Prelude.{◌≡◌, Err, string_bytes, IsUtf8};
 ghost use Rattle.std.specs.Option.{option_map};
 ghost use Rattle.words.specs.declared.faults.Fault.TheVariants.{NotText};

@@ -6,6 +6,8 @@
 //! The code that computes the shares is the crate `columns`; this crate holds what it is
 //! proved equal to, so that a change of the code does not prove the laws again.
 
+#![tactic(auto)]
+
 // The most columns that a table has.
 pub const MAX_COLUMNS: usize = 32;
 

@@ -1,6 +1,9 @@
 // The program: reads a script from standard input, one command a line, and prints an answer for each.
 //
 // A line that cannot be read is told by its number and passed over, and the run then ends with status 1.
+
+#![tactic(auto)]
+
 mod desk;
 mod pages;
 mod stops;

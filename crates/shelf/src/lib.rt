@@ -5,6 +5,8 @@
 // bytes that hold one already. Its main promise: a put changes the 16 bytes of one cell, as the rule of a
 // put says, and leaves every block lawful.
 
+#![tactic(auto)]
+
 ghost use Rattle.std.specs.Prelude.{◌≡◌, ℕ, ◌+◌, ◌*◌, ◌≤◌, length, is_some, is_ok, if◌then◌else◌};
 ghost use Rattle.style.specs.Symbols.{symbol_of};
 ghost use Rattle.page.specs.Cells.{fresh, tidy};

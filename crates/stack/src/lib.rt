@@ -3,6 +3,8 @@
 // The slice gives the room: what is laid on a full stack is refused, and nothing changes then. Its
 // main promise: what a stack holds, top first, follows from the calls as it would for a list.
 
+#![tactic(auto)]
+
 ghost use Rattle.std.specs.Prelude.{◌≡◌, ◌-◌, ◌<◌, ◌≤◌, [], length, MatchOption, nat_lt, slice_index_or};
 ghost use Rattle.stack.specs.Stacks.{held, room, pushed, popped, topped, replaced};
 

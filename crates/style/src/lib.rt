@@ -4,6 +4,8 @@
 // adds and those that it takes away. Patching lays one style over another. A symbol is a string of 0
 // to 8 bytes, held as one number. Its main promise: the bytes that went into a symbol come out again.
 
+#![tactic(auto)]
+
 ghost use Rattle.std.specs.Prelude.{◌≡◌, ◌≤◌, length, IfSome};
 ghost use Rattle.style.specs.Symbols.{packed, unpacked, bytes_of, symbol_from, whole};
 ghost use Rattle.style.specs.Styles.{colour_over, patched, adding};

@@ -1,4 +1,7 @@
 //! The tail of a text that is still arriving.
+
+#![tactic(auto)]
+
 ghost use Rattle.std.specs.Prelude.{◌≡◌, length, IfOk};
 ghost use Rattle.tail.specs.Cook.{numbered, told, answered, written, handed, cooked};
 

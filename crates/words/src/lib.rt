@@ -2,6 +2,9 @@
 //!
 //! The main promise: the words, and the number that a word says, are those of the definitions in specs/, which go over the
 //! line's bytes alone.
+
+#![tactic(auto)]
+
 mod bytes;
 mod cursor;
 mod faults;

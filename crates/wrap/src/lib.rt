@@ -11,6 +11,8 @@
 //!
 //! Main promise: whatever the rule, of two widths from 1 up the wider gives no more rows.
 
+#![tactic(auto)]
+
 ghost use Rattle.std.specs.Prelude.{◌≡◌, length};
 ghost use Rattle.wrap_laws.specs.Breaks.{Breaking, WiderNoMoreRows, rows, rows_from};
 ghost use Rattle.wrap_laws.specs.Rules.{cutting_break, word_break};
