@@ -5,8 +5,8 @@ use Rattle.columns.specs.Layout.{first_too_wide}
 use Rattle.columns.proofs.Checks.{first_too_wide_more}
 use Rattle.columns.proofs.check.Goals as goal
 
-pub returns-then-n-gt-MAX-NATURAL : goal.returns-then-n-gt-MAX-NATURAL
-returns-then-n-gt-MAX-NATURAL c =
+pub returns-then-n-gt-MAX_NATURAL : goal.returns-then-n-gt-MAX_NATURAL
+returns-then-n-gt-MAX_NATURAL c =
     let e = first_too_wide_more c.loop-i.i c.args.given.now (omega arith) in grind (arith, nat_tests)
 
 pub loop-i-preserved : goal.loop-i-preserved

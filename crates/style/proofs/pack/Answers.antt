@@ -10,15 +10,15 @@ loop-i-init c =
     let e : 8 * (length s - length s) ≡ 0 = omega arith in
     (omega arith, sym (ap packed (drop_all (length s) s (omega arith))), rw e (omega arith))
 
-pub overflow-mul-n : goal.overflow-mul-n
-overflow-mul-n c =
+pub overflow_mul-n : goal.overflow_mul-n
+overflow_mul-n c =
     let s = c.args.text.now in
     let b : get_or s (c.loop-i.i - 1) 0 < 256 = search rules in
     let g = grown (length s - c.loop-i.i) (length s - (c.loop-i.i - 1)) (get_or s (c.loop-i.i - 1) 0) c.loop-i.n (omega arith) c.loop-i.invariant.2 b in
     omega (arith, small (length s - (c.loop-i.i - 1)) (get_or s (c.loop-i.i - 1) 0 + 256 * c.loop-i.n) (omega arith) g)
 
-pub overflow-add-n : goal.overflow-add-n
-overflow-add-n c =
+pub overflow_add-n : goal.overflow_add-n
+overflow_add-n c =
     let s = c.args.text.now in
     let b : get_or s (c.loop-i.i - 1) 0 < 256 = search rules in
     let g = grown (length s - c.loop-i.i) (length s - (c.loop-i.i - 1)) (get_or s (c.loop-i.i - 1) 0) c.loop-i.n (omega arith) c.loop-i.invariant.2 b in
