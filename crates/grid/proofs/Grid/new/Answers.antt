@@ -16,7 +16,7 @@ returns c =
     let m = length c.args.cells.now in
     let after = c.fill.new.self in
     let fit : fits w h (w * h) m ≡ true =
-    not_refused c.check.result (memory_answer w h (w * h) m) c.check.ensures.value (sym c.is-err.ensures.value ∙ c.if-is-err.false) in
+    not_refused c.check.result (memory_answer w h (w * h) m) c.check.ensures.value (sym c.is_err.ensures.value ∙ c.if-is_err.false) in
     let all : after ≡ replicate (w * h) fresh = c.fill.ensures.after (λ y e. search rules) ∙ ap (λ k. replicate k fresh) (fitting w h (w * h) m fit).0 in
     let kept = c.fill.ensures.len in
     record {

@@ -10,12 +10,12 @@ use Rattle.grid.proofs.Writes.{cell_at-set, cell_at_beyond, sound-set}
 use Rattle.grid.proofs.GridSurface.put.Goals.{After-place-i, After-inked-cell}
 use Rattle.grid.proofs.GridSurface.put.Goals as goal
 
-ok : (c : After-place-i) → Admitted (grid_shows c.args.self.now).wide (grid_shows c.args.self.now).high c.args.x c.args.y c.args.symbol.now c.args.style c.in-ok-symbol.symbol
+ok : (c : After-place-i) → Admitted (grid_shows c.args.self.now).wide (grid_shows c.args.self.now).high c.args.x c.args.y c.args.symbol.now c.args.style c.in_ok-symbol.symbol
 ok c =
     let g = c.args.self.now in
-    admitted (grid_shows g).wide (grid_shows g).high c.args.x c.args.y c.args.symbol.now c.args.style c.in-ok-symbol.symbol
+    admitted (grid_shows g).wide (grid_shows g).high c.args.x c.args.y c.args.symbol.now c.args.style c.in_ok-symbol.symbol
     c.width.result c.height.result c.admit.result
-    c.width.ensures.value c.height.ensures.value c.admit.ensures.value c.in-ok-symbol.was
+    c.width.ensures.value c.height.ensures.value c.admit.ensures.value c.in_ok-symbol.was
 
 on : (c : After-place-i) → Placed c.args.self.now.width c.args.self.now.height (c.args.self.now.width * c.args.self.now.height) (length c.args.self.now.cells.now) c.args.x c.args.y
 on c =
@@ -38,10 +38,10 @@ returns c =
     let lt = bounds-self-i-2 c in
     let at = c.place-i.ensures.value in
     let kept = length-set cells i v in
-    let made : v ≡ inked c.in-ok-symbol.symbol c.args.style (tidy (cell_at cells (c.args.y * g.width + c.args.x))) =
+    let made : v ≡ inked c.in_ok-symbol.symbol c.args.style (tidy (cell_at cells (c.args.y * g.width + c.args.x))) =
     c.inked-cell.ensures.value
-    ∙ ap (λ d. inked c.in-ok-symbol.symbol c.args.style d) c.tidy.ensures.value
-    ∙ ap (λ k. inked c.in-ok-symbol.symbol c.args.style (tidy (cell_at cells k))) at in
+    ∙ ap (λ d. inked c.in_ok-symbol.symbol c.args.style d) c.tidy.ensures.value
+    ∙ ap (λ k. inked c.in_ok-symbol.symbol c.args.style (tidy (cell_at cells k))) at in
     let step : (k : ℕ) → k < g.width * g.height → cell_at (set cells i v) k ≡ cond (eqb k (c.args.y * g.width + c.args.x)) v (cell_at cells k) =
     λ k _. cell_at-set cells i v lt k ∙ ap (λ n. cond (eqb k n) v (cell_at cells k)) at in
     let n = g.width * g.height in
@@ -52,7 +52,7 @@ returns c =
         numbers = (ok before).numbers;
         cells = λ a b.
             ap (λ m. (rows_page g.width g.height n m (cell_at (set cells i v))).cell a b) kept
-            ∙ rows_cells g.width g.height n (length cells) c.args.x c.args.y c.args.symbol.now c.args.style c.in-ok-symbol.symbol
+            ∙ rows_cells g.width g.height n (length cells) c.args.x c.args.y c.args.symbol.now c.args.style c.in_ok-symbol.symbol
             (cell_at cells) v bytes (ok before) made (cell_at (set cells i v)) step a b;
         as_wide = ap (λ m. cond (fits g.width g.height n m) g.width 0) kept;
         as_high = ap (λ m. cond (fits g.width g.height n m) g.height 0) kept;
@@ -60,13 +60,13 @@ returns c =
         hidden = λ p a b. cell_at_beyond cells i n v (omega (arith, (on before).place)) a;
         still = λ each k l.
             sound-set cells i n v lt
-            (rows-sound g.width g.height n (length cells) c.args.x c.args.y c.args.symbol.now c.args.style c.in-ok-symbol.symbol
+            (rows-sound g.width g.height n (length cells) c.args.x c.args.y c.args.symbol.now c.args.style c.in_ok-symbol.symbol
             (cell_at cells) v bytes (ok before) made)
             each k l;
       };
       memory =
           ap (λ d. set cells i d)
-          (rows_made g.width g.height n (length cells) c.args.x c.args.y c.args.symbol.now c.args.style c.in-ok-symbol.symbol
+          (rows_made g.width g.height n (length cells) c.args.x c.args.y c.args.symbol.now c.args.style c.in_ok-symbol.symbol
           (cell_at cells) v bytes (ok before) made)
           ∙ ap (λ k. set cells k (inked (symbol_of c.args.symbol.now) c.args.style (tidy (cell_at cells (c.args.y * g.width + c.args.x))))) at;
     }

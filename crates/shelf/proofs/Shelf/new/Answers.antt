@@ -17,10 +17,10 @@ returns c =
     let h = c.args.height in
     let n = shelf_length w h in
     let m = length c.args.bytes.now in
-    let new = c.fill-fresh.new.bytes in
+    let new = c.fill_fresh.new.bytes in
     let fit : fits w h n m ≡ true =
-    not_refused c.check.result (memory_answer w h n m) c.check.ensures.value (sym c.is-err.ensures.value ∙ c.if-is-err.false) in
-    let all : new ≡ shelved w h (λ _. fresh) = c.fill-fresh.ensures.after ∙ ap (λ k. map (shelf_byte w h (λ _. fresh)) (range_with_len 0 k)) (fitting w h n m fit).0 in
+    not_refused c.check.result (memory_answer w h n m) c.check.ensures.value (sym c.is_err.ensures.value ∙ c.if-is_err.false) in
+    let all : new ≡ shelved w h (λ _. fresh) = c.fill_fresh.ensures.after ∙ ap (λ k. map (shelf_byte w h (λ _. fresh)) (range_with_len 0 k)) (fitting w h n m fit).0 in
     let kept : length new ≡ m = ap length all ∙ length-shelved w h (λ _. fresh) ∙ sym (fitting w h n m fit).0 in
     record {
       memory = all ∙ sym (cond-true (fits w h n m) (shelved w h (λ _. fresh)) c.args.bytes.now fit);

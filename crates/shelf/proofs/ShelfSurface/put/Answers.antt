@@ -12,12 +12,12 @@ use Rattle.shelf.proofs.Kept.{cell_in-written, lawful_written}
 use Rattle.shelf.proofs.ShelfSurface.put.Goals.{After-slot-p}
 use Rattle.shelf.proofs.ShelfSurface.put.Goals as goal
 
-ok : (c : After-slot-p) → Admitted (shelf_shows c.args.self.now).wide (shelf_shows c.args.self.now).high c.args.x c.args.y c.args.symbol.now c.args.style c.in-ok-symbol.symbol
+ok : (c : After-slot-p) → Admitted (shelf_shows c.args.self.now).wide (shelf_shows c.args.self.now).high c.args.x c.args.y c.args.symbol.now c.args.style c.in_ok-symbol.symbol
 ok c =
     let g = c.args.self.now in
-    admitted (shelf_shows g).wide (shelf_shows g).high c.args.x c.args.y c.args.symbol.now c.args.style c.in-ok-symbol.symbol
+    admitted (shelf_shows g).wide (shelf_shows g).high c.args.x c.args.y c.args.symbol.now c.args.style c.in_ok-symbol.symbol
     c.width.result c.height.result c.admit.result
-    c.width.ensures.value c.height.ensures.value c.admit.ensures.value c.in-ok-symbol.was
+    c.width.ensures.value c.height.ensures.value c.admit.ensures.value c.in_ok-symbol.was
 
 on : (c : After-slot-p) → Placed c.args.self.now.width c.args.self.now.height (shelf_length c.args.self.now.width c.args.self.now.height) (length c.args.self.now.bytes.now) c.args.x c.args.y
 on c =
@@ -33,11 +33,11 @@ room c =
     let e = at c in
     omega (arith, (on c).lent, slot_within (c.args.y * g.width + c.args.x) (g.width * g.height) (on c).place)
 
-pub cell-from-requires : goal.cell-from-requires
-cell-from-requires c = room (goal.at.cell-from-requires c).After-slot-p
+pub cell_from-requires : goal.cell_from-requires
+cell_from-requires c = room (goal.at.cell_from-requires c).After-slot-p
 
-pub write-bytes-requires : goal.write-bytes-requires
-write-bytes-requires c = room (goal.at.write-bytes-requires c).After-slot-p
+pub write_bytes-requires : goal.write_bytes-requires
+write_bytes-requires c = room (goal.at.write_bytes-requires c).After-slot-p
 
 pub returns : goal.returns
 returns c =
@@ -48,19 +48,19 @@ returns c =
     let n = shelf_length w h in
     let k = c.args.y * w + c.args.x in
     let v = c.inked-cell.result in
-    let new = c.write-bytes.new.bytes in
+    let new = c.write_bytes.new.bytes in
     let before = (goal.at.returns c).After-slot-p in
-    let made : v ≡ inked c.in-ok-symbol.symbol c.args.style (tidy (cell_in bs k)) =
+    let made : v ≡ inked c.in_ok-symbol.symbol c.args.style (tidy (cell_in bs k)) =
     c.inked-cell.ensures.value
-    ∙ ap (λ d. inked c.in-ok-symbol.symbol c.args.style d) c.cell-from.ensures.value
-    ∙ ap (λ p. inked c.in-ok-symbol.symbol c.args.style (tidy (cell_from bs p))) (at before) in
+    ∙ ap (λ d. inked c.in_ok-symbol.symbol c.args.style d) c.cell_from.ensures.value
+    ∙ ap (λ p. inked c.in_ok-symbol.symbol c.args.style (tidy (cell_from bs p))) (at before) in
     let wrote : new ≡ written bs (slot k) (cell_bytes v) =
-    c.write-bytes.ensures.after
-    ∙ ap (λ p. written bs p c.cell-bytes.result) (at before)
-    ∙ ap (λ l. written bs (slot k) l) c.cell-bytes.ensures.value in
+    c.write_bytes.ensures.after
+    ∙ ap (λ p. written bs p c.cell_bytes.result) (at before)
+    ∙ ap (λ l. written bs (slot k) l) c.cell_bytes.ensures.value in
     let bytes : (b : ℕ) → get_or c.args.symbol.now b 0 < 256 = λ b. search rules in
-    let good = rows-sound w h n (length bs) c.args.x c.args.y c.args.symbol.now c.args.style c.in-ok-symbol.symbol (cell_in bs) v bytes (ok before) made in
-    let whole = rows_made w h n (length bs) c.args.x c.args.y c.args.symbol.now c.args.style c.in-ok-symbol.symbol (cell_in bs) v bytes (ok before) made in
+    let good = rows-sound w h n (length bs) c.args.x c.args.y c.args.symbol.now c.args.style c.in_ok-symbol.symbol (cell_in bs) v bytes (ok before) made in
+    let whole = rows_made w h n (length bs) c.args.x c.args.y c.args.symbol.now c.args.style c.in_ok-symbol.symbol (cell_in bs) v bytes (ok before) made in
     let fill : n ≤ length bs = omega (arith, (on before).lent) in
     let kept : length new ≡ length bs = ap length wrote ∙ length-written bs (slot k) (cell_bytes v) (omega (arith, slot_within k (w * h) (on before).place)) refl in
     let step : (q : ℕ) → q < w * h → cell_in new q ≡ cond (eqb q k) v (cell_in bs q) =
@@ -71,7 +71,7 @@ returns c =
         numbers = (ok before).numbers;
         cells = λ a b.
             ap (λ m. (rows_page w h n m (cell_in new)).cell a b) kept
-            ∙ rows_cells w h n (length bs) c.args.x c.args.y c.args.symbol.now c.args.style c.in-ok-symbol.symbol (cell_in bs) v bytes (ok before) made (cell_in new) step a b;
+            ∙ rows_cells w h n (length bs) c.args.x c.args.y c.args.symbol.now c.args.style c.in_ok-symbol.symbol (cell_in bs) v bytes (ok before) made (cell_in new) step a b;
         as_wide = ap (λ m. cond (fits w h n m) w 0) kept;
         as_high = ap (λ m. cond (fits w h n m) h 0) kept;
         kept = ap (λ m. g.bytes.name ∷ m ∷ w ∷ h ∷ []) kept;

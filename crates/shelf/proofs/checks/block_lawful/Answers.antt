@@ -7,17 +7,17 @@ use Rattle.shelf.proofs.checks.block_lawful.Goals as goal
 pub loop-i-init : goal.loop-i-init
 loop-i-init c = every-none (cell_test c.args.bytes.now (c.args.width * c.args.height) c.args.block)
 
-pub returns-then-not-slot-lawful : goal.returns-then-not-slot-lawful
-returns-then-not-slot-lawful c =
+pub returns-then-not-slot_lawful : goal.returns-then-not-slot_lawful
+returns-then-not-slot_lawful c =
     record {
       value = sym (block_not c.args.bytes.now c.args.width c.args.height c.args.block c.loop-i.i c.loop-i-test.true
-          (sym c.slot-lawful.ensures.value ∙ c.if-not-slot-lawful.true));
+          (sym c.slot_lawful.ensures.value ∙ c.if-not-slot_lawful.true));
     }
 
 pub loop-i-preserved : goal.loop-i-preserved
 loop-i-preserved c =
     every_more c.loop-i.i (cell_test c.args.bytes.now (c.args.width * c.args.height) c.args.block) c.loop-i.invariant
-    (sym c.slot-lawful.ensures.value ∙ c.if-not-slot-lawful.false)
+    (sym c.slot_lawful.ensures.value ∙ c.if-not-slot_lawful.false)
 
 pub returns : goal.returns
 returns c =
@@ -26,5 +26,5 @@ returns c =
     record {
       value = block_tail c.args.bytes.now c.args.width c.args.height c.args.block c.holds.result
           (ap (λ n. every n t) (sym end) ∙ c.loop-i.invariant)
-          (c.holds.ensures.value ∙ ap (λ l. holds c.args.bytes.now (512 * c.args.block + 496) l) c.tail-bytes.ensures.value);
+          (c.holds.ensures.value ∙ ap (λ l. holds c.args.bytes.now (512 * c.args.block + 496) l) c.tail_bytes.ensures.value);
     }

@@ -5,6 +5,6 @@ use Rattle.shelf.proofs.layout.write_bytes.Goals as goal
 pub returns : goal.returns
 returns c =
     record {
-      after = put_mid-paste c.args.p (c.args.p + 16 - c.args.p) c.args.bytes.now c.copy-from-slice.new.self c.args.new.now 16
-          c.copy-from-slice.ensures.after (omega arith) (omega arith);
+      after = put_mid-paste c.args.p (c.args.p + 16 - c.args.p) c.args.bytes.now c.copy_from_slice.new.self c.args.new.now 16
+          c.copy_from_slice.ensures.after (omega arith) (omega arith);
     }
