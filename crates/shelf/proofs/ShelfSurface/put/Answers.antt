@@ -74,7 +74,7 @@ returns c =
             ∙ rows_cells w h n (length bs) c.args.x c.args.y c.args.symbol.now c.args.style c.in_ok-symbol.symbol (cell_in bs) v bytes (ok before) made (cell_in new) step a b;
         as_wide = ap (λ m. cond (fits w h n m) w 0) kept;
         as_high = ap (λ m. cond (fits w h n m) h 0) kept;
-        kept = ap (λ m. g.bytes.name ∷ m ∷ w ∷ h ∷ []) kept;
+        kept = ap (λ m. g.bytes.ghost_name ∷ m ∷ w ∷ h ∷ []) kept;
         hidden = λ p a b. refl;
         still = λ all. subst (λ l. Lawful l w h) (sym wrote) (lawful_written bs w h k v fill (on before).place good all);
       };
