@@ -1,7 +1,7 @@
 -- The layout that is filled, from the parts that the code makes.
-use Rattle.std.proofs.Common.{◌≡◌, ℕ, ◌+◌, ◌-◌, ◌*◌, ◌<◌, ◌≤◌, max, Bool, true, false, cond, ltb, List, [], ◌∷◌, ◌++◌, length, get_or, take, drop, Ok, sum, sym, refl, ap, ◌∙◌, subst, arith}
+use Rattle.std.proofs.Common.{◌≡◌, ℕ, ◌-◌, ◌<◌, ◌≤◌, max, Bool, cond, ltb, List, ◌++◌, length, get_or, take, drop, Ok, sum, sym, ap, ◌∙◌, subst, arith}
 use borrow.Rule.Slice.PartMut.{post_of}
-use Rattle.shares.specs.Shares.{naturals, budget, shared, Fed}
+use Rattle.shares.specs.Shares.{naturals, budget, shared}
 use Rattle.shares.proofs.Totals.{length-naturals, fed_naturals, sum-naturals, length-shared, shared_most}
 use Rattle.columns.specs.declared.ColumnLayout.{ColumnLayout}
 use Rattle.columns.specs.Layout.{slots, answered, laid}

@@ -1,4 +1,4 @@
-use Rattle.std.proofs.Common.{◌≡◌, ℕ, ◌+◌, ◌*◌, ◌<◌, ◌≤◌, Bool, true, false, cond, ◌&&◌, eqb, List, [], length, get_or, Ok, sym, refl, ap, ◌∙◌, subst, ⊎_elim, arith}
+use Rattle.std.proofs.Common.{◌≡◌, ℕ, ◌+◌, ◌*◌, ◌<◌, true, cond, eqb, List, get_or, sym, ap, ◌∙◌, subst, ⊎_elim, arith}
 use Rattle.std.proofs.lemmas.Bool.{cases_Bool, cond_both}
 use Rattle.std.proofs.lemmas.Bool.Decides.{nat_tests}
 use Rattle.style.specs.declared.Style.{Style}
@@ -6,12 +6,11 @@ use Rattle.style.specs.declared.Symbol.{Symbol}
 use Rattle.style.specs.Symbols.{symbol_of}
 use Rattle.page.specs.declared.cells.Cell.{Cell}
 use Rattle.page.specs.Cells.{fresh, inked, sound, tidy}
-use Rattle.page.specs.Refusals.{put_answer, put_told}
-use Rattle.page.specs.Surfaces.{Page, inside, patch, shown}
+use Rattle.page.specs.Surfaces.{patch, shown}
 use Rattle.page.specs.Laws.{tidy-sound}
 use Rattle.page.specs.Rows.{fits, rows_page}
 use Rattle.page.proofs.Places.{place_lt, shown-inked, shown-fresh}
-use Rattle.page.proofs.Puts.{Admitted, admitted, fitting}
+use Rattle.page.proofs.Puts.{Admitted, fitting}
 use Rattle.page.proofs.Sounds.{tidy_same, inked-sound}
 
 -- what is known of a place x, y on a page in memory

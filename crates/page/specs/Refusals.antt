@@ -1,7 +1,5 @@
-use Rattle.std.specs.Prelude.{ℕ, Bool, cond, ◌&&◌, ◌||◌, List, [], ◌∷◌, length, Ok, Err, Result, ◌==◌, nat_lt}
+use Rattle.std.specs.Prelude.{ℕ, Bool, cond, ◌&&◌, ◌||◌, List, [], ◌∷◌, Ok, Err, Result, ◌==◌, nat_lt}
 use Rattle.style.specs.declared.Style.{Style}
-use Rattle.style.specs.declared.Symbol.{Symbol}
-use Rattle.style.specs.Symbols.{symbol_of}
 use Rattle.page.specs.declared.refusals.Refusal.{Refusal}
 use Rattle.page.specs.declared.refusals.Refusal.TheVariants.{Outside, Long, Amount, Block, Colour}
 

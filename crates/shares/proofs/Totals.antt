@@ -1,9 +1,9 @@
 -- Lengths and sums of natural and final widths.
-use Rattle.std.proofs.Common.{◌≡◌, ℕ, zero, suc, ◌+◌, ◌-◌, ◌*◌, ◌<◌, ◌≤◌, max, Bool, true, false, cond, ltb, List, [], ◌∷◌, map, length, get_or, set, sum, sym, refl, ap, ◌∙◌, subst, ⊎_elim, suc-mul, arith}
+use Rattle.std.proofs.Common.{◌≡◌, ℕ, zero, suc, ◌+◌, ◌-◌, ◌*◌, ◌<◌, ◌≤◌, max, Bool, ltb, List, [], ◌∷◌, map, length, get_or, sum, refl, ⊎_elim, suc-mul, arith}
 use Rattle.std.proofs.lemmas.List.{length-set, length-map, get_or-map, get_or_past}
 use Rattle.std.proofs.lemmas.List.Sums.{sum_by-set, sum_by-cons, get_or-le-sum_by}
 use Rattle.std.proofs.lemmas.Bool.{cases_lt, cond_both, ltb-true, ltb-false}
-use Rattle.shares.specs.Shares.{naturals, shaved, stretched, shared, Fed}
+use Rattle.shares.specs.Shares.{naturals, shared, Fed}
 use Rattle.shares.proofs.Shaving.{length-shaved, sum-shaved}
 
 pub length-naturals : (ns : List ℕ) → length (naturals ns) ≡ max (length ns) 1

@@ -1,9 +1,9 @@
-use Rattle.std.proofs.Common.{◌≡◌, ℕ, ◌+◌, ◌*◌, ◌^◌, ◌<◌, ◌≤◌, Bool, true, false, cond, ◌&&◌, eqb, ◌⊎◌, List, length, get_or, sym, refl, ap, ◌∙◌, inl, inr, ⊎_elim, arith}
+use Rattle.std.proofs.Common.{◌≡◌, ℕ, ◌+◌, ◌*◌, ◌^◌, ◌<◌, ◌≤◌, true, cond, eqb, ◌⊎◌, List, length, sym, refl, ap, ◌∙◌, inl, inr, ⊎_elim, arith}
 use Rattle.std.proofs.lemmas.Bool.{cases_eq, cases_order, and_parts, and_from, cond-true, cond-false, eq-eqb, ne_eqb}
 use Rattle.style.proofs.Symbols.{small}
 use Rattle.page.specs.declared.cells.Cell.{Cell}
 use Rattle.page.specs.Cells.{sound}
-use Rattle.page.proofs.Sounds.{Parts, sound_parts}
+use Rattle.page.proofs.Sounds.{sound_parts}
 use Rattle.shelf.specs.Bytes.{at, slot, cell_in, cell_bytes, tail_bytes, written, every, holds}
 use Rattle.shelf.specs.Blocks.{blocks, slot_lawful, block_lawful, Lawful}
 use Rattle.shelf.proofs.Tests.{every-at, every_from}

@@ -1,15 +1,14 @@
-use Rattle.std.proofs.Common.{◌≡◌, ℕ, ◌+◌, ◌-◌, ◌*◌, ◌/◌, ◌%◌, ◌^◌, ◌<◌, ◌≤◌, Bool, true, false, cond, ◌&&◌, eqb, ltb, ◌⊎◌, List, map, length, get_or, sym, refl, ap, ◌∙◌, inl, inr, ⊎_elim, arith}
-use Rattle.std.specs.List.{range_with_len}
+use Rattle.std.proofs.Common.{◌≡◌, ℕ, ◌+◌, ◌*◌, ◌/◌, ◌%◌, ◌<◌, ◌≤◌, true, cond, eqb, ltb, length, get_or, sym, ap, ◌∙◌, ⊎_elim, arith}
 use Rattle.std.proofs.lemmas.List.FromFn.{get_or-map-range_with_len, length-map-range_with_len}
 use Rattle.std.proofs.lemmas.List.{get_or-replicate}
 use Rattle.std.proofs.lemmas.Bool.{cases_lt, and_from, cond-true, cond-false, eq-eqb, lt-ltb, le-ltb}
 use Rattle.page.specs.declared.cells.Cell.{Cell}
 use Rattle.page.specs.Cells.{sound}
 use Rattle.shelf.specs.Bytes.{at, slot, cell_from, cell_in, cell_bytes, tail_bytes, no_bytes, every, holds}
-use Rattle.shelf.specs.Blocks.{blocks, shelf_length, slot_lawful, block_lawful, Lawful, shelf_byte, shelved}
+use Rattle.shelf.specs.Blocks.{blocks, shelf_length, Lawful, shelf_byte, shelved}
 use Rattle.shelf.proofs.Tests.{every_from}
 use Rattle.shelf.proofs.Lawful.{cell_test}
-use Rattle.shelf.proofs.Slots.{slot_is, slot_within, cell_from_bytes, slot_lawful_bytes}
+use Rattle.shelf.proofs.Slots.{cell_from_bytes, slot_lawful_bytes}
 use Rattle.shelf.proofs.Kept.{sound_small}
 
 -- the bytes of a page of w by h whose cells are f

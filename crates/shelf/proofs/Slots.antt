@@ -1,4 +1,4 @@
-use Rattle.std.proofs.Common.{◌≡◌, ℕ, ◌+◌, ◌-◌, ◌*◌, ◌/◌, ◌%◌, ◌^◌, ◌<◌, ◌≤◌, Bool, true, false, cond, ◌&&◌, eqb, ltb, ◌⊎◌, List, [], ◌∷◌, ◌++◌, length, get_or, take, drop, sym, refl, ap, ◌∙◌, inl, inr, ⊎_elim, add-zero, arith, lit<, length-take}
+use Rattle.std.proofs.Common.{◌≡◌, ℕ, ◌+◌, ◌*◌, ◌/◌, ◌%◌, ◌^◌, ◌<◌, ◌≤◌, true, cond, ◌&&◌, eqb, ltb, ◌⊎◌, List, length, get_or, sym, ap, ◌∙◌, inl, inr, ⊎_elim, add-zero, arith, lit<}
 use lib.Seq.{paste}
 use Rattle.std.proofs.lemmas.List.{places}
 use Rattle.std.proofs.lemmas.Bool.{cases_lt, eq-eqb}
@@ -6,7 +6,7 @@ use Rattle.std.proofs.lemmas.List.Edits.{length-paste}
 use Rattle.style.specs.Symbols.{packed, unpacked}
 use Rattle.style.proofs.Symbols.{packed-unpacked}
 use Rattle.page.specs.declared.cells.Cell.{Cell}
-use Rattle.shelf.specs.Bytes.{at, slot, cell_from, cell_in, cell_bytes, no_bytes, written, every, holds}
+use Rattle.shelf.specs.Bytes.{at, slot, cell_from, cell_bytes, no_bytes, written, holds}
 use Rattle.shelf.specs.Blocks.{blocks, slot_lawful}
 use Rattle.shelf.proofs.Tests.{every_same, every_from}
 use Rattle.shelf.proofs.Lawful.{slot-used}

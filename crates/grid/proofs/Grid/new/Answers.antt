@@ -1,4 +1,4 @@
-use Rattle.std.proofs.Common.{◌≡◌, ℕ, ◌*◌, true, cond, length, replicate, sym, refl, ap, ◌∙◌, rules}
+use Rattle.std.proofs.Common.{◌≡◌, ◌*◌, true, cond, length, replicate, sym, refl, ap, ◌∙◌, rules}
 use Rattle.std.proofs.lemmas.Bool.{cond-true}
 use Rattle.page.specs.Cells.{fresh, sound}
 use Rattle.page.specs.Refusals.{memory_answer}

@@ -1,10 +1,10 @@
-use Rattle.std.proofs.Common.{◌≡◌, ℕ, ◌+◌, ◌*◌, ◌<◌, cond, eqb, [], ◌∷◌, length, get_or, set, sym, refl, ap, ◌∙◌, arith, length-set, rules}
+use Rattle.std.proofs.Common.{◌≡◌, ℕ, ◌+◌, ◌*◌, ◌<◌, cond, eqb, [], ◌∷◌, length, get_or, set, ap, ◌∙◌, arith, length-set, rules}
 use Rattle.style.specs.Symbols.{symbol_of}
 use Rattle.page.specs.Cells.{inked, tidy}
 use Rattle.page.specs.Rows.{fits, rows_page}
 use Rattle.page.proofs.Puts.{Admitted, admitted}
 use Rattle.page.proofs.Rows.{Placed, placed, rows_made, rows-sound, rows_cells}
-use Rattle.grid.specs.Memory.{cell_at, cell_put}
+use Rattle.grid.specs.Memory.{cell_at}
 use Rattle.grid.specs.Grids.{grid_shows}
 use Rattle.grid.proofs.Writes.{cell_at-set, cell_at_beyond, sound-set}
 use Rattle.grid.proofs.GridSurface.put.Goals.{After-place-i, After-inked-cell}

@@ -1,5 +1,5 @@
-use Rattle.std.proofs.Common.{◌≡◌, ◌*◌, length, ap, ◌∙◌, arith}
-use Rattle.page.proofs.Rows.{Placed, placed}
+use Rattle.std.proofs.Common.{◌*◌, length, arith}
+use Rattle.page.proofs.Rows.{placed}
 use Rattle.grid.proofs.GridSurface.read.Goals as goal
 
 pub bounds-self-place : goal.bounds-self-place

@@ -1,7 +1,7 @@
-use Rattle.std.proofs.Common.{◌≡◌, ℕ, ◌*◌, true, cond, map, length, sym, refl, ap, ◌∙◌, subst}
+use Rattle.std.proofs.Common.{◌≡◌, true, cond, map, length, sym, refl, ap, ◌∙◌, subst}
 use Rattle.std.specs.List.{range_with_len}
 use Rattle.std.proofs.lemmas.Bool.{cond-true}
-use Rattle.page.specs.Cells.{fresh, sound}
+use Rattle.page.specs.Cells.{fresh}
 use Rattle.page.specs.Refusals.{memory_answer}
 use Rattle.page.specs.Rows.{fits, rows_page}
 use Rattle.page.proofs.Puts.{fitting, not_refused}

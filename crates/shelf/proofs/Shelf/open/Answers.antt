@@ -1,7 +1,7 @@
-use Rattle.std.proofs.Common.{◌≡◌, ℕ, ◌*◌, true, false, cond, length, is_some, sym, refl, ap, ◌∙◌, subst}
+use Rattle.std.proofs.Common.{ℕ, cond, length, is_some, sym, refl, ap, ◌∙◌, subst}
 use Rattle.page.specs.Rows.{fits}
-use Rattle.shelf.specs.Blocks.{shelf_length, wide_of, high_of, fault, Lawful}
-use Rattle.shelf.proofs.Opened.{Whole, opened}
+use Rattle.shelf.specs.Blocks.{shelf_length, wide_of, high_of, Lawful}
+use Rattle.shelf.proofs.Opened.{opened}
 use Rattle.shelf.proofs.Shelf.open.Goals as goal
 
 pub returns : goal.returns

@@ -1,10 +1,9 @@
-use Rattle.std.proofs.Common.{◌≡◌, ℕ, ◌+◌, ◌*◌, ◌<◌, ◌≤◌, true, cond, eqb, [], ◌∷◌, length, get_or, sym, refl, ap, ◌∙◌, subst, arith, rules}
-use Rattle.style.specs.Symbols.{symbol_of}
-use Rattle.page.specs.Cells.{inked, sound, tidy}
+use Rattle.std.proofs.Common.{◌≡◌, ℕ, ◌+◌, ◌*◌, ◌<◌, ◌≤◌, cond, eqb, [], ◌∷◌, length, get_or, sym, refl, ap, ◌∙◌, subst, arith, rules}
+use Rattle.page.specs.Cells.{inked, tidy}
 use Rattle.page.specs.Rows.{fits, rows_page}
 use Rattle.page.proofs.Puts.{Admitted, admitted}
 use Rattle.page.proofs.Rows.{Placed, placed, rows_made, rows-sound, rows_cells}
-use Rattle.shelf.specs.Bytes.{slot, cell_from, cell_in, cell_bytes, written, bytes_put}
+use Rattle.shelf.specs.Bytes.{slot, cell_from, cell_in, cell_bytes, written}
 use Rattle.shelf.specs.Blocks.{shelf_length, Lawful}
 use Rattle.shelf.specs.Shelves.{shelf_shows}
 use Rattle.shelf.proofs.Slots.{slot_within, length-written}

@@ -1,5 +1,5 @@
-use Rattle.std.proofs.Common.{◌≡◌, ◌+◌, ◌*◌, length, ap, ◌∙◌, arith}
-use Rattle.page.proofs.Rows.{Placed, placed}
+use Rattle.std.proofs.Common.{◌+◌, ◌*◌, length, ap, ◌∙◌, arith}
+use Rattle.page.proofs.Rows.{placed}
 use Rattle.shelf.specs.Bytes.{slot}
 use Rattle.shelf.specs.Blocks.{shelf_length}
 use Rattle.shelf.proofs.Slots.{slot_within}

@@ -1,4 +1,4 @@
-use Rattle.std.proofs.Common.{◌≡◌, ◌+◌, ◌*◌, true, sym, ap, ◌∙◌, arith, rules}
+use Rattle.std.proofs.Common.{◌≡◌, ◌+◌, ◌*◌, sym, ap, ◌∙◌, arith}
 use Rattle.shelf.specs.Bytes.{every, holds}
 use Rattle.shelf.proofs.Tests.{every-none, every_more}
 use Rattle.shelf.proofs.Lawful.{cell_test, block_not, block_tail}

@@ -1,4 +1,4 @@
-use Rattle.std.proofs.Common.{◌≡◌, sym, refl, ap, ◌∙◌, arith}
+use Rattle.std.proofs.Common.{sym, refl, ◌∙◌}
 use Rattle.shelf.proofs.Lawful.{unlawful_on, unlawful_here, unlawful-none}
 use Rattle.shelf.proofs.checks.first_unlawful.Goals as goal
 

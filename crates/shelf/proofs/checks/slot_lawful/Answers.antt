@@ -1,4 +1,4 @@
-use Rattle.std.proofs.Common.{◌≡◌, true, sym, ap, ◌∙◌}
+use Rattle.std.proofs.Common.{sym, ap, ◌∙◌}
 use Rattle.page.specs.Cells.{sound}
 use Rattle.shelf.specs.Bytes.{cell_bytes, holds}
 use Rattle.shelf.proofs.Lawful.{slot-used}

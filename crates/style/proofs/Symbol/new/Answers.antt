@@ -1,4 +1,4 @@
-use Rattle.std.proofs.Common.{◌≡◌, ℕ, ◌<◌, length, get_or, sym, ap, ◌∙◌, arith, rules}
+use Rattle.std.proofs.Common.{ℕ, ◌<◌, length, get_or, ap, ◌∙◌, rules}
 use Rattle.style.proofs.Symbols.{unpacked-packed}
 use Rattle.style.specs.Symbols.{unpacked}
 use Rattle.style.proofs.Symbol.new.Goals as goal
