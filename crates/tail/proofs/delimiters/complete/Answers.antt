@@ -10,7 +10,7 @@ use Rattle.tail.proofs.delimiters.complete.Goals as goal
 pub loop-c-init : goal.loop-c-init
 loop-c-init c =
     let i = c.undecorated-inner.result.now in
-    let e : chars_rest c.into-iter-c-iterator.result ≡ i = search rules in
+    let e : chars_rest c.into_iter-c-iterator.result ≡ i = search rules in
     rw e (tt, tt, c.undecorated-inner.utf8, omega arith, row_start c.args.cols (chars i) ∙ ap (λ l. all_delimit (pieces false l) && eqb (length (pieces false l)) c.args.cols) c.undecorated-inner.ensures)
 
 pub loop-c-preserved-then-is-whole : goal.loop-c-preserved-then-is-whole
@@ -42,7 +42,7 @@ returns-in-124-2 c =
     let u = c.loop-c.invariant.2 in
     let e = c.in-Some.ensures.steps.0 in
     let d = ap (row_from p n k) (step_chars s t x u e) in
-    sym (d ∙ row_stop p n k x (chars t) c.in-124.is (sym c.is-whole.ensures ∙ c.if-is-whole.false)) ∙ c.loop-c.invariant.4
+    sym (d ∙ row_stop p n k x (chars t) c.in-124.is (sym c.is_whole.ensures ∙ c.if-is_whole.false)) ∙ c.loop-c.invariant.4
 
 pub loop-c-preserved : goal.loop-c-preserved
 loop-c-preserved c =

@@ -11,7 +11,7 @@ pub loop-c-init : goal.loop-c-init
 loop-c-init c =
     let t = c.args.text.now in
     let u : IsUtf8 t = search rules in
-    let e : chars_rest c.into-iter-c-iterator.result ≡ t = search rules in
+    let e : chars_rest c.into_iter-c-iterator.result ≡ t = search rules in
     rw e (tt, tt, u, omega arith, ending-none (is 92) (chars t))
 
 pub loop-c-preserved-then-c-eq92 : goal.loop-c-preserved-then-c-eq92

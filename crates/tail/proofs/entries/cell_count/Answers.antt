@@ -9,7 +9,7 @@ use Rattle.tail.proofs.entries.cell_count.Goals as goal
 pub loop-c-init : goal.loop-c-init
 loop-c-init c =
     let i = c.undecorated-inner.result.now in
-    let e : chars_rest c.into-iter-c-iterator.result ≡ i = search rules in
+    let e : chars_rest c.into_iter-c-iterator.result ≡ i = search rules in
     rw e (tt, tt, c.undecorated-inner.utf8, ap (λ l. 1 + length (pieces false l)) c.undecorated-inner.ensures)
 
 pub overflow-add-count : goal.overflow-add-count

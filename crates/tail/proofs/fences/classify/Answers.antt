@@ -15,7 +15,7 @@ returns-in-default c =
 
 pub returns-in-124 : goal.returns-in-124
 returns-in-124 c =
-    let t = c.trim-start-text in
+    let t = c.trim_start-text in
     let u : IsUtf8 c.args.line.now = search rules in
     let e = trim_start_chars c.args.line.now t.result.now u t.utf8 t.ensures.value in
     let s : t.result.now ≡ encode c.in-Some.first ++ chars_rest c.next.new.self = sym c.chars.ensures.rest ∙ c.in-Some.ensures.steps.0 in
@@ -26,25 +26,25 @@ returns-in-124 c =
 
 pub returns-in-96 : goal.returns-in-96
 returns-in-96 c =
-    let t = c.trim-start-text in
+    let t = c.trim_start-text in
     let u : IsUtf8 c.args.line.now = search rules in
     let e = trim_start_chars c.args.line.now t.result.now u t.utf8 t.ensures.value in
     let s : t.result.now ≡ encode c.in-Some.first ++ chars_rest c.next.new.self = sym c.chars.ensures.rest ∙ c.in-Some.ensures.steps.0 in
     let f = step_chars t.result.now (chars_rest c.next.new.self) c.in-Some.first t.utf8 s in
     let x = chars t.result.now in
     let xs = chars (chars_rest c.next.new.self) in
-    c.classify-marks.ensures ∙ (class_backtick x c.in-Some.first xs f c.in-96.is ∙ ap class_at e)
+    c.classify_marks.ensures ∙ (class_backtick x c.in-Some.first xs f c.in-96.is ∙ ap class_at e)
 
 pub returns-in-126 : goal.returns-in-126
 returns-in-126 c =
-    let t = c.trim-start-text in
+    let t = c.trim_start-text in
     let u : IsUtf8 c.args.line.now = search rules in
     let e = trim_start_chars c.args.line.now t.result.now u t.utf8 t.ensures.value in
     let s : t.result.now ≡ encode c.in-Some.first ++ chars_rest c.next.new.self = sym c.chars.ensures.rest ∙ c.in-Some.ensures.steps.0 in
     let f = step_chars t.result.now (chars_rest c.next.new.self) c.in-Some.first t.utf8 s in
     let x = chars t.result.now in
     let xs = chars (chars_rest c.next.new.self) in
-    c.classify-marks-in-126.ensures ∙ (class_tilde x c.in-Some.first xs f c.in-126.is ∙ ap class_at e)
+    c.classify_marks-in-126.ensures ∙ (class_tilde x c.in-Some.first xs f c.in-126.is ∙ ap class_at e)
 
 pub returns-in-default-first : goal.returns-in-default-first
 returns-in-default-first c =

@@ -23,6 +23,6 @@ returns c =
     let m = c.args.mark in
     let s = c.loop-more.rest.now in
     let low : c.sign.result < 128 = omega (arith, c.sign.ensures, sign_low m) in
-    let h = strip_prefix_char c.sign.result s None c.in-default.ensures.cases low in
+    let h = strip_prefix_char c.sign.result s None c.in_default.ensures.cases low in
     let f = chars_not_first (sign m) (sign_low m) s c.loop-more.invariant.0 (λ xs e. h xs (e ∙ ap (λ d. d ∷ xs) (sym c.sign.ensures))) in
     record { count = omega (arith, leading_none (sign m) (chars s) f, c.loop-more.invariant.2); rest = sym (past-none (sign m) (chars s) f) ∙ c.loop-more.invariant.3 }

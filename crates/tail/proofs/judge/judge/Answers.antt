@@ -10,7 +10,7 @@ pub returns-in-Err : goal.returns-in-Err
 returns-in-Err c =
     let bs = c.args.source.now in
     let h = c.in-Err.ensures.cases in
-    record { value = invalid_answer bs c.args.room c.valid-up-to.result h.0 (subst (IsValidUpTo bs) (sym c.valid-up-to.ensures) h.1); after = λ out _. invalid_output bs c.args.room out h.0; text = tt; bound = tt }
+    record { value = invalid_answer bs c.args.room c.valid_up_to.result h.0 (subst (IsValidUpTo bs) (sym c.valid_up_to.ensures) h.1); after = λ out _. invalid_output bs c.args.room out h.0; text = tt; bound = tt }
 
 pub returns-in-default : goal.returns-in-default
 returns-in-default c =

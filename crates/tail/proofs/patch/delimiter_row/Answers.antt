@@ -12,8 +12,8 @@ loop-k-init c = paste_none (set c.args.out.now c.args.at 124) (c.args.at + 1) (d
 pub loop-k-preserved : goal.loop-k-preserved
 loop-k-preserved c =
     let d = set c.args.out.now c.args.at 124 in
-    column_on d (c.args.at + 1) c.loop-k.k (c.args.at + 1 + 4 * c.loop-k.k) _ c.loop-k.out c.copy-from-slice.new.self
-    (omega (arith, c.requires, length-set c.args.out.now c.args.at 124)) refl (omega arith) c.copy-from-slice.ensures.after c.loop-k.invariant
+    column_on d (c.args.at + 1) c.loop-k.k (c.args.at + 1 + 4 * c.loop-k.k) _ c.loop-k.out c.copy_from_slice.new.self
+    (omega (arith, c.requires, length-set c.args.out.now c.args.at 124)) refl (omega arith) c.copy_from_slice.ensures.after c.loop-k.invariant
 
 pub returns : goal.returns
 returns c =

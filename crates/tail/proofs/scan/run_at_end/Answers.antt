@@ -12,7 +12,7 @@ use Rattle.tail.proofs.scan.run_at_end.Goals as goal
 
 pub loop-line-init : goal.loop-line-init
 loop-line-init c =
-    let i = c.into-iter-line-iterator.result in
+    let i = c.into_iter-line-iterator.result in
     let t = c.args.text.now in
     let u : IsUtf8 t = search rules in
     let k : split_pattern i ≡ 10 = search rules in
