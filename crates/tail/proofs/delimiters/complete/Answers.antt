@@ -13,8 +13,8 @@ loop-c-init c =
     let e : chars_rest c.into_iter-c-iterator.result ≡ i = search rules in
     rw e (tt, tt, c.undecorated-inner.utf8, omega arith, row_start c.args.cols (chars i) ∙ ap (λ l. all_delimit (pieces false l) && eqb (length (pieces false l)) c.args.cols) c.undecorated-inner.ensures)
 
-pub loop-c-preserved-then-is-whole : goal.loop-c-preserved-then-is-whole
-loop-c-preserved-then-is-whole c =
+pub loop-c-preserved-then-is_whole : goal.loop-c-preserved-then-is_whole
+loop-c-preserved-then-is_whole c =
     let s = chars_rest c.loop-c.c-iterator in
     let t = chars_rest c.next.new.self in
     let x = c.in-Some.c in
@@ -28,7 +28,7 @@ loop-c-preserved-then-is-whole c =
       tt,
       step_utf8 s t x u e,
       omega (arith, step_length s t x e),
-      sym (d ∙ row_pipe p n k x (chars t) c.in-124.is (sym c.is-whole.ensures ∙ c.if-is-whole.true)) ∙ c.loop-c.invariant.4,
+      sym (d ∙ row_pipe p n k x (chars t) c.in-124.is (sym c.is_whole.ensures ∙ c.if-is_whole.true)) ∙ c.loop-c.invariant.4,
     )
 
 pub returns-in-124-2 : goal.returns-in-124-2
@@ -62,18 +62,18 @@ loop-c-preserved c =
       sym (d ∙ row_on p n k x (chars t) c.next-part.result (λ q. omega arith) c.next-part.ensures) ∙ c.loop-c.invariant.4,
     )
 
-pub returns-then-is-whole-2 : goal.returns-then-is-whole-2
-returns-then-is-whole-2 c =
+pub returns-then-is_whole-2 : goal.returns-then-is_whole-2
+returns-then-is_whole-2 c =
     let p = c.loop-c.part in
     let n = c.loop-c.count in
     let k = c.args.cols in
     let d = ap (row_from p n k) (decodes_none (chars_rest c.loop-c.c-iterator) c.in-None.ensures.steps.0.0) ∙ row_end p n k in
-    sym (ap (λ b. b && eqb n k) (sym c.is-whole-2.ensures ∙ c.if-is-whole-2.true)) ∙ (sym d ∙ c.loop-c.invariant.4)
+    sym (ap (λ b. b && eqb n k) (sym c.is_whole-2.ensures ∙ c.if-is_whole-2.true)) ∙ (sym d ∙ c.loop-c.invariant.4)
 
-pub returns-else-is-whole-2 : goal.returns-else-is-whole-2
-returns-else-is-whole-2 c =
+pub returns-else-is_whole-2 : goal.returns-else-is_whole-2
+returns-else-is_whole-2 c =
     let p = c.loop-c.part in
     let n = c.loop-c.count in
     let k = c.args.cols in
     let d = ap (row_from p n k) (decodes_none (chars_rest c.loop-c.c-iterator) c.in-None.ensures.steps.0.0) ∙ row_end p n k in
-    c.if-is-whole-2.false ∙ (sym (ap (λ b. b && eqb n k) (sym c.is-whole-2.ensures ∙ c.if-is-whole-2.false)) ∙ (sym d ∙ c.loop-c.invariant.4))
+    c.if-is_whole-2.false ∙ (sym (ap (λ b. b && eqb n k) (sym c.is_whole-2.ensures ∙ c.if-is_whole-2.false)) ∙ (sym d ∙ c.loop-c.invariant.4))

@@ -24,8 +24,8 @@ loop-c-preserved c =
     let e = c.in-Some.ensures.steps.0 in
     (tt, tt, step_utf8 s t x u e, all_on delimiter_char x (chars t) (chars s) (step_chars s t x u e) (delimiter_yes x c.in-124.is) ∙ c.loop-c.invariant.3)
 
-pub returns-in-default : goal.returns-in-default
-returns-in-default c =
+pub returns-in_default : goal.returns-in_default
+returns-in_default c =
     let s = chars_rest c.loop-c.c-iterator in
     let t = chars_rest c.next.new.self in
     let x = c.in-Some.c in

@@ -12,8 +12,8 @@ loop-c-init c =
     let e : chars_rest c.into_iter-c-iterator.result ≡ i = search rules in
     rw e (tt, tt, c.undecorated-inner.utf8, ap (λ l. 1 + length (pieces false l)) c.undecorated-inner.ensures)
 
-pub overflow-add-count : goal.overflow-add-count
-overflow-add-count c =
+pub overflow_add-count : goal.overflow_add-count
+overflow_add-count c =
     let s = chars_rest c.loop-c.c-iterator in
     let t = chars_rest c.next.new.self in
     let x = c.in-Some.c in

@@ -17,7 +17,7 @@ returns c =
     let n = c.cell_count-cols.ensures.value in
     let alone = sym c.lone_pipe.ensures ∙ c.if-lone_pipe.false in
     let open' = sym (ap (λ k. complete k l) n) ∙ (sym c.complete.ensures ∙ c.if-complete.false) in
-    let on : unfinished (chars c.args.line.now) ≡ true = sym c.delimiter-charset.ensures ∙ c.if-not-delimiter-charset.false in
+    let on : unfinished (chars c.args.line.now) ≡ true = sym c.delimiter_charset.ensures ∙ c.if-not-delimiter_charset.false in
     let off = ap not (sym c.requires ∙ c.if-ended.false) in
-    let row = ap (λ k. take c.last-line.result bs ++ delimiter_row k) n ∙ bytes_replaced bs c.last-line.result (cell_count h) c.last-line.ensures.value in
-    record { value = ap (λ (x : List ℕ). Some x) row ∙ sym (ap (option_map encodes) (two_lines h l (chars bs) alone open' on off)); bound = c.last-line.ensures.bound }
+    let row = ap (λ k. take c.last_line.result bs ++ delimiter_row k) n ∙ bytes_replaced bs c.last_line.result (cell_count h) c.last_line.ensures.value in
+    record { value = ap (λ (x : List ℕ). Some x) row ∙ sym (ap (option_map encodes) (two_lines h l (chars bs) alone open' on off)); bound = c.last_line.ensures.bound }

@@ -11,15 +11,15 @@ use Rattle.tail.specs.declared.fences.Fence.TheVariants.{Absent}
 use Rattle.tail.proofs.Repairs.{ended_chars, body_chars, three_stay}
 use Rattle.tail.proofs.repair.repair.Goals as goal
 
-pub after-header-requires : goal.after-header-requires
-after-header-requires c =
+pub after_header-requires : goal.after_header-requires
+after_header-requires c =
     let u : IsUtf8 c.args.text.now = search rules in
-    ended_chars c.args.text.now c.ends-with-ended.result u c.ends-with-ended.ensures.cases
+    ended_chars c.args.text.now c.ends_with-ended.result u c.ends_with-ended.ensures.cases
 
-pub after-two-requires : goal.after-two-requires
-after-two-requires c =
+pub after_two-requires : goal.after_two-requires
+after_two-requires c =
     let u : IsUtf8 c.args.text.now = search rules in
-    ended_chars c.args.text.now c.ends-with-ended.result u c.ends-with-ended.ensures.cases
+    ended_chars c.args.text.now c.ends_with-ended.result u c.ends_with-ended.ensures.cases
 
 pub returns-in-Empty : goal.returns-in-Empty
 returns-in-Empty c =
