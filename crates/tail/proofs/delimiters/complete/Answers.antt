@@ -1,8 +1,7 @@
-use Rattle.std.proofs.Common.{◌≡◌, ℕ, ◌+◌, false, ◌&&◌, eqb, length, sym, refl, ap, ◌∙◌, arith, rules}
+use Rattle.std.proofs.Common.{◌≡◌, false, ◌&&◌, eqb, length, sym, ap, ◌∙◌, arith, rules}
 use Rattle.std.specs.Str.Iter.{chars_rest}
 use Rattle.std.specs.Str.{chars}
 use Rattle.tail.specs.Entries.{pieces, all_delimit}
-use Rattle.tail.specs.Scanning.{goes_on}
 use Rattle.tail.proofs.Spelling.{step_chars, step_utf8, step_length, decodes_none}
 use Rattle.tail.proofs.Rows.{row_from, row_start, row_pipe, row_stop, row_on, row_end}
 use Rattle.tail.proofs.delimiters.complete.Goals as goal

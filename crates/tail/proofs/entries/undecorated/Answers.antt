@@ -1,4 +1,4 @@
-use Rattle.std.proofs.Common.{◌≡◌, ◌%◌, Some, None, IsUtf8, sym, ap, ◌∙◌, lit<, rules}
+use Rattle.std.proofs.Common.{◌%◌, Some, None, IsUtf8, sym, ap, ◌∙◌, lit<, rules}
 use Rattle.std.proofs.lemmas.Str.Pattern.{strip_suffix_char}
 use Rattle.tail.specs.Entries.{without_last_pipe}
 use Rattle.tail.proofs.Ends.{opened_chars, pipe_off, pipe_on, pipe_none}

@@ -1,6 +1,6 @@
-use Rattle.std.proofs.Common.{◌≡◌, IsUtf8, sym, ◌∙◌, rules}
+use Rattle.std.proofs.Common.{IsUtf8, sym, ◌∙◌, rules}
 use Rattle.std.specs.Str.{chars}
-use Rattle.tail.proofs.Classes.{blank_text, class_few, class_bare, class_info, class_none}
+use Rattle.tail.proofs.Classes.{blank_text, class_bare, class_info, class_none}
 use Rattle.tail.proofs.fences.classify_marks.Goals as goal
 
 pub returns-then-is_empty : goal.returns-then-is_empty

@@ -1,7 +1,6 @@
-use Rattle.std.proofs.Common.{◌≡◌, ℕ, ◌<◌, List, ◌∷◌, length, Some, None, sym, refl, ap, ◌∙◌, subst, arith, rules}
+use Rattle.std.proofs.Common.{◌≡◌, ◌<◌, ◌∷◌, length, Some, None, sym, ap, ◌∙◌, arith}
 use Rattle.std.specs.Str.{chars}
 use Rattle.std.proofs.lemmas.Str.Pattern.{strip_prefix_char}
-use Rattle.tail.specs.Texts.{starts_with}
 use Rattle.tail.specs.Fences.{sign}
 use Rattle.tail.proofs.Ends.{chars_not_first}
 use Rattle.tail.proofs.Marks.{sign_low, leading_none, past-none, mark_counts, mark-past}

@@ -1,9 +1,9 @@
-use Rattle.std.proofs.Common.{◌≡◌, ℕ, ◌+◌, ◌*◌, ◌<◌, ◌≤◌, length, set, sym, refl, ap, ◌∙◌, arith, rules}
+use Rattle.std.proofs.Common.{◌≡◌, ◌+◌, ◌*◌, set, refl, ap, ◌∙◌, arith}
 use lib.Seq.{paste}
 use Rattle.std.proofs.lemmas.List.Edits.{paste_none}
 use Rattle.std.proofs.lemmas.List.{length-set}
 use Rattle.tail.specs.Entries.{dashes}
-use Rattle.tail.proofs.Pastes.{column, column_on, row_pasted}
+use Rattle.tail.proofs.Pastes.{column_on, row_pasted}
 use Rattle.tail.proofs.patch.delimiter_row.Goals as goal
 
 pub loop-k-init : goal.loop-k-init

@@ -1,11 +1,8 @@
-use Rattle.std.proofs.Common.{◌≡◌, ℕ, true, cond, not, ◌&&◌, List, [], ◌∷◌, ◌++◌, length, take, Some, None, IsUtf8, Option, sym, refl, ap, ◌∙◌, arith, rules}
+use Rattle.std.proofs.Common.{◌≡◌, ℕ, true, not, List, ◌++◌, take, Some, sym, ap, ◌∙◌}
 use lib.Utf8.{encodes}
 use Rattle.std.specs.Option.{option_map}
 use Rattle.std.specs.Str.{chars}
-use Rattle.std.proofs.lemmas.Bool.{cond-false, cond-true, and_from}
-use Rattle.tail.specs.Texts.{ends_with}
 use Rattle.tail.specs.Entries.{delimiter_row, cell_count, complete, unfinished}
-use Rattle.tail.specs.Cook.{lone_pipe, replaced}
 use Rattle.tail.proofs.Repairs.{bytes_replaced, two_lines}
 use Rattle.tail.proofs.repair.after_two.Goals as goal
 

@@ -1,9 +1,8 @@
-use Rattle.std.proofs.Common.{◌≡◌, ℕ, ◌≤◌, List, [], ◌∷◌, length, IsUtf8, unwrap_or, sym, refl, ap, ◌∙◌, subst, lit<, Bor, rules}
+use Rattle.std.proofs.Common.{ℕ, ◌≤◌, List, length, IsUtf8, sym, ap, ◌∙◌, subst, lit<, Bor, rules}
 use lib.Utf8.{encodes}
 use Rattle.std.specs.Option.{option_map}
 use Rattle.std.specs.Str.{chars}
 use Rattle.std.proofs.lemmas.Str.Pattern.{strip_suffix_char}
-use Rattle.tail.specs.Texts.{without_last}
 use Rattle.tail.specs.Lines.{lines_of}
 use Rattle.tail.specs.Fences.{run_at_end}
 use Rattle.tail.specs.Cook.{repaired_by, last_run}

@@ -1,8 +1,7 @@
-use Rattle.std.proofs.Common.{◌≡◌, ◌∷◌, sym, ap, ◌∙◌, arith, rules}
+use Rattle.std.proofs.Common.{◌∷◌, sym, ap, ◌∙◌, arith}
 use Rattle.tail.specs.declared.delimiters.Part.TheVariants.{Hyphens}
-use Rattle.std.specs.Char.{is_whitespace}
 use Rattle.tail.specs.Scanning.{goes_on}
-use Rattle.tail.proofs.Rows.{colon_ends, colon_no, hyphen_yes, other_no, white_no, white_first, white_ends}
+use Rattle.tail.proofs.Rows.{colon_ends, colon_no, hyphen_yes, other_no}
 use Rattle.tail.proofs.delimiters.Part.next.Goals as goal
 
 pub returns-in-Hyphens : goal.returns-in-Hyphens

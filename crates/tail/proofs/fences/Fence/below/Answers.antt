@@ -1,6 +1,5 @@
-use Rattle.std.proofs.Common.{◌≡◌, sym, ap, ◌∙◌, rules}
+use Rattle.std.proofs.Common.{sym, ap, ◌∙◌, rules}
 use Rattle.tail.specs.declared.fences.Fence.TheVariants.{Absent, Open}
-use Rattle.tail.specs.declared.fences.Class.TheVariants.{Pipe, Bare, Info, Other}
 use denote.Enum.Bare.{same_true, same_false}
 use Rattle.tail.specs.contracts.fences.Mark.{the_type}
 use Rattle.tail.proofs.Steps.{stepped, below_from, bare_closes, bare_short, bare_other}

@@ -1,7 +1,7 @@
-use Rattle.std.proofs.Common.{◌≡◌, ◌+◌, ◌-◌, ◌*◌, ◌<◌, Bool, cond, [], ◌∷◌, ◌++◌, length, take, drop, sym, refl, ap, ◌∙◌, arith, rules}
+use Rattle.std.proofs.Common.{◌≡◌, ◌+◌, ◌-◌, ◌*◌, ◌<◌, Bool, cond, [], ◌∷◌, ◌++◌, length, take, drop, sym, ap, ◌∙◌, arith, rules}
 use Rattle.tail.specs.Entries.{delimiter_row}
 use Rattle.std.proofs.lemmas.List.{take_at}
-use Rattle.tail.specs.Patches.{patched, size}
+use Rattle.tail.specs.Patches.{patched}
 use Rattle.tail.proofs.Pastes.{written-plain, written_fed, length-patched}
 use Rattle.tail.proofs.patch.Patch.write.Goals as goal
 use Rattle.tail.proofs.patch.Patch.write.Goals.{then-self, else-self}
