@@ -1,12 +1,12 @@
 -- The class of a line.
-use Rattle.std.proofs.Common.{◌≡◌, ℕ, suc, ◌<◌, ◌≤◌, Bool, true, false, cond, not, ◌&&◌, eqb, leb, List, [], ◌∷◌, length, IsUtf8, sym, refl, ap, ◌∙◌, subst, arith}
+use Rattle.std.proofs.Common.{◌≡◌, ℕ, suc, ◌<◌, ◌≤◌, Bool, true, false, cond, ◌&&◌, eqb, leb, List, [], ◌∷◌, length, IsUtf8, sym, refl, ap, ◌∙◌, arith}
 use Rattle.std.specs.Char.{is_whitespace}
 use Rattle.std.specs.List.{prefix_len}
 use Rattle.std.specs.Str.{chars}
 use Rattle.std.proofs.lemmas.Bool.{cond-true, cond-false, eq-eqb, ne_eqb, le-leb, lt-leb}
 use Rattle.tail.specs.Texts.{all, is, past, starts_with}
 use Rattle.tail.specs.Fences.{sign, may_follow}
-use Rattle.tail.specs.Scanning.{mark_class, class_of}
+use Rattle.tail.specs.Scanning.{mark_class}
 use Rattle.tail.specs.declared.fences.Mark.{Mark}
 use Rattle.tail.specs.declared.fences.Mark.TheVariants.{Backtick, Tilde}
 use Rattle.tail.specs.declared.fences.Class.{Class}

@@ -1,6 +1,6 @@
 -- A text's first and its last character, as std's `strip_prefix` and `strip_suffix` see them.
-use Rattle.std.proofs.Common.{◌≡◌, ℕ, ◌+◌, ◌%◌, ◌<◌, Bool, true, false, cond, eqb, List, [], ◌∷◌, ◌++◌, length, drop, Some, None, IsUtf8, Option, unwrap_or, sym, refl, ap, ◌∙◌, subst, ⊎_elim, arith, lit<, Bor, MatchOption}
-use lib.Utf8.{scalar, encode, encodes, low_scalar}
+use Rattle.std.proofs.Common.{◌≡◌, ℕ, ◌+◌, ◌%◌, ◌<◌, Bool, true, false, eqb, List, [], ◌∷◌, ◌++◌, length, drop, Some, None, IsUtf8, Option, unwrap_or, sym, refl, ap, ◌∙◌, ⊎_elim, arith, lit<, Bor, MatchOption}
+use lib.Utf8.{encode, encodes, low_scalar}
 use Rattle.std.specs.Str.Pattern.{FindsCharPrefix}
 use Rattle.std.specs.Str.{chars}
 use Rattle.std.proofs.lemmas.Bool.{cond-true, cond-false, cases_Bool, eq-eqb, ne_eqb, eqb-true, and_from, and_left, and_right}
@@ -8,7 +8,7 @@ use Rattle.std.proofs.lemmas.Str.Pattern.{IsTrimResult, strip_prefix_char}
 use Rattle.std.proofs.lemmas.Str.{encodes-append, encodes-chars, chars_past_char, encode_ascii}
 use Rattle.std.proofs.lemmas.List.{append-nil}
 use Rattle.tail.specs.Entries.{ends_in_pipe, without_last_pipe}
-use Rattle.tail.specs.Texts.{is, at_end, trimmed, starts_with, ends_with, front, without_first, without_last}
+use Rattle.tail.specs.Texts.{is, at_end, trimmed, starts_with, ends_with, front, without_first}
 use Rattle.tail.proofs.Spelling.{decodes_push, trim_chars}
 
 pub ends_with-push : (d : ℕ) (cs : List ℕ) → ends_with d (cs ++ (d ∷ [])) ≡ true

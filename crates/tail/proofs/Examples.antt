@@ -1,5 +1,5 @@
 -- The worked examples, by evaluation.
-use Rattle.std.proofs.Common.{◌≡◌, ℕ, List, [], ◌∷◌, ◌++◌, codes, refl}
+use Rattle.std.proofs.Common.{◌≡◌, [], ◌∷◌, ◌++◌, codes, refl}
 use lib.Utf8.{encode}
 use Rattle.std.specs.Str.{chars}
 use Rattle.tail.specs.Cook.{cooked, valid_length}

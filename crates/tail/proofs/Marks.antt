@@ -1,15 +1,13 @@
 -- Marks at the front of a text.
-use Rattle.std.proofs.Common.{◌≡◌, ℕ, ◌+◌, ◌<◌, Bool, true, false, cond, eqb, List, [], ◌∷◌, length, IsUtf8, sym, refl, ap, ◌∙◌, subst, arith, lit<}
+use Rattle.std.proofs.Common.{◌≡◌, ℕ, ◌+◌, ◌<◌, false, eqb, List, [], ◌∷◌, IsUtf8, refl, ap, ◌∙◌, lit<}
 use Rattle.std.specs.List.{prefix_len}
 use Rattle.std.specs.Str.{chars}
 use Rattle.std.proofs.lemmas.Bool.{cond-true, cond-false, eq-eqb}
-use Rattle.std.proofs.lemmas.Str.{IsUtf8-past_char, encode_ascii}
 use Rattle.tail.specs.Texts.{is, past, starts_with}
 use Rattle.tail.specs.Fences.{sign}
 use Rattle.tail.specs.declared.fences.Mark.{Mark}
 use Rattle.tail.specs.declared.fences.Mark.TheVariants.{Backtick, Tilde}
-use Rattle.tail.proofs.Ends.{chars_first, chars_not_first}
-use Rattle.tail.proofs.Spelling.{utf8_tail}
+use Rattle.tail.proofs.Ends.{chars_first}
 
 pub sign_low : (m : Mark) → sign m < 128
 sign_low Backtick = lit< tt

@@ -1,20 +1,18 @@
 -- What a repair of characters is in bytes.
-use Rattle.std.proofs.Common.{◌≡◌, ℕ, zero, suc, ◌+◌, ◌-◌, ◌*◌, ◌<◌, ◌≤◌, Bool, true, false, cond, not, ◌&&◌, eqb, List, [], ◌∷◌, ◌++◌, length, take, drop, Some, None, IsUtf8, Decides, MatchBool, Option, unwrap_or, sym, refl, ap, ◌∙◌, subst, ⊎_elim, true≢false, append_assoc, arith, lit<, Bor, MatchOption}
+use Rattle.std.proofs.Common.{◌≡◌, ℕ, zero, suc, ◌+◌, ◌-◌, ◌≤◌, Bool, true, false, cond, not, ◌&&◌, eqb, List, [], ◌∷◌, ◌++◌, length, take, drop, Some, None, IsUtf8, Decides, MatchBool, Option, unwrap_or, sym, refl, ap, ◌∙◌, true≢false, append_assoc, arith, lit<, Bor, MatchOption}
 use lib.Utf8.{encode, encodes}
-use Rattle.std.specs.Str.Pattern.{RFindsChar, FindsCharSuffix, HasCharAt}
-use Rattle.std.specs.Option.{option_map}
-use Rattle.std.specs.Char.{len_utf8}
+use Rattle.std.specs.Str.Pattern.{RFindsChar, FindsCharSuffix}
 use Rattle.std.specs.Str.{NonePass, IsCharBoundary, chars, bytes_eq}
 use Rattle.std.proofs.lemmas.Slice.Eq.{bytes_eq-Decides}
-use Rattle.std.proofs.lemmas.List.{append-nil, take-append-drop, take_at, take_all, length-append, length-take-le, length-drop}
-use Rattle.std.proofs.lemmas.Str.Pattern.{ends_char, strip_suffix_char}
-use Rattle.std.proofs.lemmas.Bool.{cond-true, cond-false, cases_Bool, not_from_false, and_from}
+use Rattle.std.proofs.lemmas.List.{append-nil, take-append-drop, take_at, take_all, length-append, length-take-le}
+use Rattle.std.proofs.lemmas.Str.Pattern.{ends_char}
+use Rattle.std.proofs.lemmas.Bool.{cond-true, cond-false, not_from_false, and_from}
 use Rattle.std.proofs.lemmas.Str.{encodes-append, encodes-chars, chars_from_encodes, encode_ascii, IsUtf8-take, len_utf8_ascii}
 use Rattle.std.proofs.lemmas.Bool.Decides.{same_from_decides, Decides-like}
-use Rattle.tail.specs.Texts.{all, is, before, ends_with, front, without_last, trimmed}
+use Rattle.tail.specs.Texts.{all, is, ends_with, front, without_last}
 use Rattle.tail.specs.Entries.{dashes, delimiter_row, cell_count, complete, unfinished}
 use Rattle.tail.specs.Cook.{lone_pipe, line_end, appended, replaced, without_last_line, repaired_by}
-use Rattle.tail.proofs.Spelling.{decodes_cut_back, encodes_push, decodes_none}
+use Rattle.tail.proofs.Spelling.{decodes_cut_back}
 use Rattle.tail.proofs.Trims.{before_end, before-all}
 use Rattle.tail.proofs.Ends.{chars_last, chars_not_last, ends_with-push, front-push}
 

@@ -1,12 +1,12 @@
 -- Delimiter rows, character by character.
-use Rattle.std.proofs.Common.{◌≡◌, ℕ, suc, ◌+◌, ◌≤◌, Bool, true, false, cond, not, ◌&&◌, ◌||◌, eqb, ◌⊎◌, List, [], ◌∷◌, length, sym, refl, ap, ◌∙◌, subst, inl, inr, ⊎_elim, true≢false, arith}
-use Rattle.std.proofs.lemmas.Bool.{cond-true, cond-false, eq-eqb, ne_eqb, or_from, or_left, or_right, and_left, and_right, and_from, cases_Bool, eqb-true}
+use Rattle.std.proofs.Common.{◌≡◌, ℕ, suc, ◌+◌, ◌≤◌, Bool, true, false, cond, ◌&&◌, eqb, ◌⊎◌, List, [], ◌∷◌, length, sym, refl, ap, ◌∙◌, subst, inl, inr, ⊎_elim, true≢false, arith}
+use Rattle.std.proofs.lemmas.Bool.{cond-true, cond-false, eq-eqb, ne_eqb, or_from, and_left, and_right, and_from, cases_Bool, eqb-true}
 use Rattle.std.proofs.lemmas.Bool.Decides.{nat_tests}
 use Rattle.std.specs.Char.{is_whitespace}
-use Rattle.tail.specs.Texts.{all, is, trimmed, before, past, ends_with, front, without_first, without_last}
+use Rattle.tail.specs.Texts.{all, is, before, past, ends_with, front, without_first, without_last}
 use Rattle.tail.specs.declared.delimiters.Part.{Part}
 use Rattle.tail.specs.declared.delimiters.Part.TheVariants.{Start, Colon, Hyphens, End, Wrong}
-use Rattle.tail.specs.Entries.{delimiter_char, unfinished, hyphens, delimits, all_delimit, pieces, complete, undecorated}
+use Rattle.tail.specs.Entries.{delimiter_char, hyphens, delimits, all_delimit, pieces}
 use Rattle.tail.specs.Scanning.{goes_on}
 use Rattle.tail.proofs.Trims.{before-all, past_stop}
 use Rattle.tail.proofs.Pieces.{length-onto, pieces_bounds}

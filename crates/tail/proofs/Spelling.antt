@@ -1,15 +1,15 @@
 -- What std's text functions say of the characters of a text.
-use Rattle.std.proofs.Common.{◌≡◌, ℕ, zero, suc, ◌+◌, ◌<◌, ◌≤◌, Bool, true, false, cond, not, eqb, List, [], ◌∷◌, ◌++◌, length, take, drop, Some, None, IsUtf8, MatchBool, sym, refl, ap, ◌∙◌, subst, append_assoc, arith}
-use lib.Utf8.{scalar, scalars, encode, encodes}
+use Rattle.std.proofs.Common.{◌≡◌, ℕ, zero, suc, ◌+◌, ◌<◌, ◌≤◌, Bool, true, false, eqb, List, [], ◌∷◌, ◌++◌, length, take, drop, Some, None, IsUtf8, MatchBool, sym, refl, ap, ◌∙◌, subst, append_assoc, arith}
+use lib.Utf8.{scalar, encode, encodes}
 use Rattle.std.specs.Char.{is_whitespace, is_not_whitespace}
 use Rattle.std.specs.Str.{NonePass, NoCharPasses, EmptyOrStartsWithPassing, EmptyOrEndsWithPassing, IsCharBoundary, chars}
 use Rattle.std.proofs.lemmas.List.{append-nil, take-append-drop, nil_from_length, take_at, length-append}
-use Rattle.std.proofs.lemmas.Str.{encodes-append, chars_from_encodes, encodes-chars, chars-encodes, chars_past_char, chars-append, chars-nil, IsCharBoundary-at_seam, IsUtf8-take, IsUtf8-drop, IsUtf8-past_char, IsUtf8-encode, encode_ascii, length-encode, len_utf8_bounds, length-le-encodes}
+use Rattle.std.proofs.lemmas.Str.{encodes-append, chars_from_encodes, encodes-chars, chars_past_char, chars-nil, IsCharBoundary-at_seam, IsUtf8-take, IsUtf8-drop, IsUtf8-past_char, IsUtf8-encode, encode_ascii, length-encode, len_utf8_bounds, length-le-encodes}
 use Rattle.std.proofs.lemmas.Bool.{not-true, ne_eqb, eq-eqb, or_from, or_left, or_right}
 use Rattle.std.specs.Str.Pattern.{FindsChar}
 use Rattle.std.proofs.lemmas.Str.Pattern.{IsTrimResult}
-use Rattle.tail.proofs.Trims.{past-front, past_stop, all_from_fails, before-all, before_end}
-use Rattle.tail.specs.Texts.{all, any, is, past, before, trimmed, starts_with, ends_with, front, without_first, without_last}
+use Rattle.tail.proofs.Trims.{past-front, past_stop, all_from_fails, before_end}
+use Rattle.tail.specs.Texts.{any, is, past, before, trimmed}
 
 -- a text that was cut in two: the characters of the front, written out as cs, and those of the rest
 pub decodes_cut : (bs xs ys cs : List ℕ) → IsUtf8 bs → IsUtf8 ys → bs ≡ xs ++ ys → encodes cs ≡ xs → chars bs ≡ cs ++ chars ys

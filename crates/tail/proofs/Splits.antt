@@ -1,17 +1,15 @@
 -- Walking through the lines of a text.
-use Rattle.std.proofs.Common.{◌≡◌, ℕ, ◌+◌, ◌<◌, ◌≤◌, Bool, true, false, cond, ◌&&◌, eqb, List, [], ◌∷◌, ◌++◌, length, take, drop, Some, None, IsUtf8, Option, sym, refl, ap, ◌∙◌, subst, true≢false, append_assoc, arith, lit<, MatchOption}
+use Rattle.std.proofs.Common.{◌≡◌, ℕ, ◌<◌, Bool, true, false, cond, ◌&&◌, eqb, List, [], ◌∷◌, ◌++◌, take, drop, Some, None, IsUtf8, Option, sym, refl, ap, ◌∙◌, subst, true≢false, append_assoc, arith, lit<, MatchOption}
 use lib.Utf8.{encode, encodes}
-use Rattle.std.specs.Str.Pattern.{FindsChar, HasCharAt, IsSplitAtFirstMatch}
-use Rattle.std.specs.Char.{len_utf8}
+use Rattle.std.specs.Str.Pattern.{FindsChar, IsSplitAtFirstMatch}
 use Rattle.std.specs.Str.{NonePass, IsCharBoundary, chars}
 use Rattle.std.proofs.lemmas.List.{append-nil, take-append-drop}
 use Rattle.std.proofs.lemmas.Bool.{cond-false}
-use Rattle.std.proofs.lemmas.Str.{chars_from_encodes, IsUtf8-drop, encode_ascii, IsUtf8-nil, len_utf8_bounds}
+use Rattle.std.proofs.lemmas.Str.{chars_from_encodes, IsUtf8-drop, encode_ascii, len_utf8_bounds}
 use Rattle.tail.specs.Lines.{lines_of, onto}
 use Rattle.tail.specs.Fences.{belongs, all_belong, fence_below, run_at_end}
 use Rattle.tail.specs.declared.fences.Fence.{Fence}
 use Rattle.tail.proofs.Spelling.{decodes_cut, encodes_push}
-use Rattle.tail.proofs.Ends.{chars_first}
 
 -- a text without line feeds is one line, and one before a line feed is the first
 lines_one : (cs : List ℕ) → NonePass (λ d. eqb d 10) cs → lines_of cs ≡ cs ∷ []

@@ -1,10 +1,10 @@
 -- The fence below a line follows from the one above it and the line's class.
-use Rattle.std.proofs.Common.{◌≡◌, ℕ, suc, ◌+◌, ◌<◌, ◌≤◌, Bool, true, false, cond, not, ◌&&◌, ◌||◌, eqb, leb, List, [], ◌∷◌, length, sym, refl, ap, ◌∙◌, subst, ⊎_elim, true≢false, arith}
+use Rattle.std.proofs.Common.{◌≡◌, ℕ, ◌<◌, ◌≤◌, Bool, true, false, cond, not, ◌&&◌, eqb, leb, List, [], ◌∷◌, sym, refl, ap, ◌∙◌, subst, ⊎_elim, true≢false, arith}
 use Rattle.std.specs.Char.{is_whitespace}
 use Rattle.std.specs.List.{prefix_len}
-use Rattle.std.proofs.lemmas.Bool.{cond-true, cond-false, eq-eqb, ne_eqb, eqb-true, le-leb, lt-leb, leb-true, leb-false, and_left, and_right, and_from, and_parts, or_from, cases_Bool, cond_both}
+use Rattle.std.proofs.lemmas.Bool.{cond-true, cond-false, ne_eqb, eqb-true, le-leb, lt-leb, leb-true, leb-false, and_left, and_right, and_from, and_parts, or_from, cases_Bool, cond_both}
 use Rattle.tail.specs.Texts.{all, any, is, past, starts_with}
-use Rattle.tail.specs.Fences.{sign, may_follow, opens, closes, fence_below, outside, belongs}
+use Rattle.tail.specs.Fences.{sign, may_follow, opens, closes, fence_below}
 use Rattle.tail.specs.Scanning.{mark_class, class_of, Sound}
 use Rattle.tail.specs.declared.fences.Mark.{Mark}
 use Rattle.tail.specs.declared.fences.Mark.TheVariants.{Backtick, Tilde}

@@ -1,9 +1,8 @@
 -- What trimming leaves.
-use Rattle.std.proofs.Common.{◌≡◌, ℕ, ◌+◌, ◌<◌, ◌≤◌, Bool, true, false, cond, not, ◌&&◌, eqb, List, [], ◌∷◌, ◌++◌, sym, refl, ap, ◌∙◌, subst, append_assoc}
+use Rattle.std.proofs.Common.{◌≡◌, ℕ, Bool, true, false, not, ◌&&◌, List, [], ◌∷◌, ◌++◌, refl, ap, ◌∙◌}
 use Rattle.std.specs.Str.{NonePass}
-use Rattle.std.proofs.lemmas.List.{append-nil}
 use Rattle.std.proofs.lemmas.Bool.{cond-true, cond-false, not-false, and_left, and_right, and_from}
-use Rattle.tail.specs.Texts.{all, any, is, past, before, trimmed, starts_with, ends_with, front, without_first, without_last}
+use Rattle.tail.specs.Texts.{all, past, before}
 
 module _ (p : ℕ → Bool) where
   -- a front that passes is passed over

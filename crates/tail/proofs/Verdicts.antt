@@ -1,10 +1,8 @@
 -- The answer and the output, case by case.
-use Rattle.std.proofs.Common.{◌≡◌, ℕ, zero, suc, ◌+◌, ◌<◌, ◌≤◌, Bool, true, false, cond, ◌&&◌, eqb, leb, List, [], ◌∷◌, ◌++◌, length, take, drop, Some, None, Ok, Err, IsUtf8, Option, Result, unwrap_or, sym, refl, ap, ◌∙◌, subst, ⊎_elim, true≢false, arith}
+use Rattle.std.proofs.Common.{◌≡◌, ℕ, zero, suc, ◌<◌, ◌≤◌, true, false, leb, List, ◌++◌, length, take, drop, Some, None, Ok, Err, IsUtf8, Option, Result, unwrap_or, sym, ap, ◌∙◌, subst, ⊎_elim, true≢false, arith}
 use lib.Utf8.{scalars, encodes}
-use Rattle.std.specs.Option.{option_map}
 use Rattle.std.specs.Str.{IsValidUpTo, chars, bytes_eq}
 use Rattle.std.proofs.lemmas.Slice.Eq.{bytes_eq-Decides}
-use Rattle.std.proofs.lemmas.List.{take_at}
 use Rattle.std.proofs.lemmas.Bool.{cond-true, cond-false, cases_Bool, cases_lt, and_from, and_parts, le-leb, lt-leb}
 use Rattle.std.proofs.lemmas.Str.{encodes-chars, scalars-chars}
 use Rattle.tail.specs.Cook.{is_utf8, valid_up_to, valid_length, repaired_bytes, answered_for, answered, written_for, written, cooked}

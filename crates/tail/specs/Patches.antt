@@ -1,5 +1,5 @@
 -- How a repaired text is put together from the source.
-use Rattle.std.specs.Prelude.{ℕ, ◌+◌, ◌*◌, cond, List, [], ◌∷◌, ◌++◌, length, take, drop, Some, None, Ok, Err, Option, Result}
+use Rattle.std.specs.Prelude.{ℕ, ◌+◌, ◌*◌, cond, List, [], ◌∷◌, ◌++◌, take, drop, Some, None, Ok, Err, Option, Result}
 use Rattle.tail.specs.Entries.{delimiter_row}
 use Rattle.tail.specs.Cook.{numbered}
 use Rattle.tail.specs.declared.Cooked.{Cooked}

@@ -1,4 +1,4 @@
-use Rattle.std.proofs.Common.{◌≡◌, ◌-◌, sym, ap, ◌∙◌, arith}
+use Rattle.std.proofs.Common.{◌-◌, sym, ap, ◌∙◌, arith}
 use Rattle.tail.specs.Cook.{handed}
 use Rattle.tail.specs.declared.Cooked.{Cooked}
 use Rattle.tail.proofs.Pastes.{take_least}

@@ -1,8 +1,8 @@
-use Rattle.std.proofs.Common.{◌≡◌, ℕ, List, length, IsUtf8, sym, refl, ap, ◌∙◌, subst, arith, rules}
+use Rattle.std.proofs.Common.{◌≡◌, IsUtf8, sym, ap, ◌∙◌, arith, rules}
 use Rattle.std.specs.Str.Iter.{chars_rest}
 use Rattle.std.specs.Str.{chars}
 use Rattle.std.proofs.lemmas.Bool.{eq-eqb, ne_eqb}
-use Rattle.tail.specs.Texts.{is, at_end}
+use Rattle.tail.specs.Texts.{is}
 use Rattle.tail.proofs.Spelling.{step_chars, step_utf8, step_length, decodes_none}
 use Rattle.tail.proofs.Endings.{ending_from, ending_yes, ending_no, ending-none}
 use Rattle.tail.proofs.entries.backslashes_at_end.Goals as goal
@@ -11,7 +11,7 @@ pub loop-c-init : goal.loop-c-init
 loop-c-init c =
     let t = c.args.text.now in
     let u : IsUtf8 t = search rules in
-    let e : chars_rest c.into-iter-c-iterator.result ≡ t = search rules in
+    let e : chars_rest c.into_iter-c-iterator.result ≡ t = search rules in
     rw e (tt, tt, u, omega arith, ending-none (is 92) (chars t))
 
 pub loop-c-preserved-then-c-eq92 : goal.loop-c-preserved-then-c-eq92

@@ -1,4 +1,4 @@
-use Rattle.std.proofs.Common.{◌≡◌, ℕ, ◌+◌, false, length, IsUtf8, sym, refl, ap, ◌∙◌, subst, arith, rules}
+use Rattle.std.proofs.Common.{◌≡◌, ◌+◌, false, length, ap, arith, rules}
 use Rattle.std.specs.Str.Iter.{chars_rest}
 use Rattle.std.specs.Str.{chars}
 use Rattle.tail.specs.Entries.{pieces, cell_count, undecorated}
@@ -9,11 +9,11 @@ use Rattle.tail.proofs.entries.cell_count.Goals as goal
 pub loop-c-init : goal.loop-c-init
 loop-c-init c =
     let i = c.undecorated-inner.result.now in
-    let e : chars_rest c.into-iter-c-iterator.result ≡ i = search rules in
+    let e : chars_rest c.into_iter-c-iterator.result ≡ i = search rules in
     rw e (tt, tt, c.undecorated-inner.utf8, ap (λ l. 1 + length (pieces false l)) c.undecorated-inner.ensures)
 
-pub overflow-add-count : goal.overflow-add-count
-overflow-add-count c =
+pub overflow_add-count : goal.overflow_add-count
+overflow_add-count c =
     let s = chars_rest c.loop-c.c-iterator in
     let t = chars_rest c.next.new.self in
     let x = c.in-Some.c in

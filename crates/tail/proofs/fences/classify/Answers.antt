@@ -6,16 +6,16 @@ use Rattle.tail.proofs.Spelling.{trim_start_chars, step_chars, decodes_none}
 use Rattle.tail.proofs.Classes.{class_at, class_pipe, class_backtick, class_tilde, class_other, class_empty}
 use Rattle.tail.proofs.fences.classify.Goals as goal
 
-pub returns-in-default : goal.returns-in-default
-returns-in-default c =
-    let t = c.trim-start-text in
+pub returns-in_default : goal.returns-in_default
+returns-in_default c =
+    let t = c.trim_start-text in
     let u : IsUtf8 c.args.line.now = search rules in
     let e = trim_start_chars c.args.line.now t.result.now u t.utf8 t.ensures.value in
-    class_empty (chars t.result.now) (decodes_none t.result.now (sym (ap length c.chars.ensures.rest) ∙ c.in-default.ensures.steps.0.0)) ∙ ap class_at e
+    class_empty (chars t.result.now) (decodes_none t.result.now (sym (ap length c.chars.ensures.rest) ∙ c.in_default.ensures.steps.0.0)) ∙ ap class_at e
 
 pub returns-in-124 : goal.returns-in-124
 returns-in-124 c =
-    let t = c.trim-start-text in
+    let t = c.trim_start-text in
     let u : IsUtf8 c.args.line.now = search rules in
     let e = trim_start_chars c.args.line.now t.result.now u t.utf8 t.ensures.value in
     let s : t.result.now ≡ encode c.in-Some.first ++ chars_rest c.next.new.self = sym c.chars.ensures.rest ∙ c.in-Some.ensures.steps.0 in
@@ -26,29 +26,29 @@ returns-in-124 c =
 
 pub returns-in-96 : goal.returns-in-96
 returns-in-96 c =
-    let t = c.trim-start-text in
+    let t = c.trim_start-text in
     let u : IsUtf8 c.args.line.now = search rules in
     let e = trim_start_chars c.args.line.now t.result.now u t.utf8 t.ensures.value in
     let s : t.result.now ≡ encode c.in-Some.first ++ chars_rest c.next.new.self = sym c.chars.ensures.rest ∙ c.in-Some.ensures.steps.0 in
     let f = step_chars t.result.now (chars_rest c.next.new.self) c.in-Some.first t.utf8 s in
     let x = chars t.result.now in
     let xs = chars (chars_rest c.next.new.self) in
-    c.classify-marks.ensures ∙ (class_backtick x c.in-Some.first xs f c.in-96.is ∙ ap class_at e)
+    c.classify_marks.ensures ∙ (class_backtick x c.in-Some.first xs f c.in-96.is ∙ ap class_at e)
 
 pub returns-in-126 : goal.returns-in-126
 returns-in-126 c =
-    let t = c.trim-start-text in
+    let t = c.trim_start-text in
     let u : IsUtf8 c.args.line.now = search rules in
     let e = trim_start_chars c.args.line.now t.result.now u t.utf8 t.ensures.value in
     let s : t.result.now ≡ encode c.in-Some.first ++ chars_rest c.next.new.self = sym c.chars.ensures.rest ∙ c.in-Some.ensures.steps.0 in
     let f = step_chars t.result.now (chars_rest c.next.new.self) c.in-Some.first t.utf8 s in
     let x = chars t.result.now in
     let xs = chars (chars_rest c.next.new.self) in
-    c.classify-marks-in-126.ensures ∙ (class_tilde x c.in-Some.first xs f c.in-126.is ∙ ap class_at e)
+    c.classify_marks-in-126.ensures ∙ (class_tilde x c.in-Some.first xs f c.in-126.is ∙ ap class_at e)
 
-pub returns-in-default-first : goal.returns-in-default-first
-returns-in-default-first c =
-    let t = c.trim-start-text in
+pub returns-in_default-first : goal.returns-in_default-first
+returns-in_default-first c =
+    let t = c.trim_start-text in
     let u : IsUtf8 c.args.line.now = search rules in
     let e = trim_start_chars c.args.line.now t.result.now u t.utf8 t.ensures.value in
     let s : t.result.now ≡ encode c.in-Some.first ++ chars_rest c.next.new.self = sym c.chars.ensures.rest ∙ c.in-Some.ensures.steps.0 in

@@ -1,7 +1,6 @@
-use Rattle.std.proofs.Common.{◌≡◌, ℕ, ◌<◌, List, ◌∷◌, length, Some, None, sym, refl, ap, ◌∙◌, subst, arith, rules}
+use Rattle.std.proofs.Common.{◌≡◌, ◌<◌, ◌∷◌, length, Some, None, sym, ap, ◌∙◌, arith}
 use Rattle.std.specs.Str.{chars}
 use Rattle.std.proofs.lemmas.Str.Pattern.{strip_prefix_char}
-use Rattle.tail.specs.Texts.{starts_with}
 use Rattle.tail.specs.Fences.{sign}
 use Rattle.tail.proofs.Ends.{chars_not_first}
 use Rattle.tail.proofs.Marks.{sign_low, leading_none, past-none, mark_counts, mark-past}
@@ -23,6 +22,6 @@ returns c =
     let m = c.args.mark in
     let s = c.loop-more.rest.now in
     let low : c.sign.result < 128 = omega (arith, c.sign.ensures, sign_low m) in
-    let h = strip_prefix_char c.sign.result s None c.in-default.ensures.cases low in
+    let h = strip_prefix_char c.sign.result s None c.in_default.ensures.cases low in
     let f = chars_not_first (sign m) (sign_low m) s c.loop-more.invariant.0 (λ xs e. h xs (e ∙ ap (λ d. d ∷ xs) (sym c.sign.ensures))) in
     record { count = omega (arith, leading_none (sign m) (chars s) f, c.loop-more.invariant.2); rest = sym (past-none (sign m) (chars s) f) ∙ c.loop-more.invariant.3 }

@@ -1,4 +1,4 @@
-use Rattle.std.proofs.Common.{◌≡◌, ℕ, ◌<◌, ◌≤◌, List, length, Some, None, Err, sym, ap, ◌∙◌, subst, arith, rules}
+use Rattle.std.proofs.Common.{◌≡◌, ℕ, ◌≤◌, List, length, Some, None, sym, ◌∙◌, subst, arith}
 use Rattle.std.specs.Str.{IsValidUpTo}
 use Rattle.tail.specs.Cook.{repaired_bytes}
 use Rattle.tail.specs.Patches.{patched, size}
@@ -10,14 +10,14 @@ pub returns-in-Err : goal.returns-in-Err
 returns-in-Err c =
     let bs = c.args.source.now in
     let h = c.in-Err.ensures.cases in
-    record { value = invalid_answer bs c.args.room c.valid-up-to.result h.0 (subst (IsValidUpTo bs) (sym c.valid-up-to.ensures) h.1); after = λ out _. invalid_output bs c.args.room out h.0; text = tt; bound = tt }
+    record { value = invalid_answer bs c.args.room c.valid_up_to.result h.0 (subst (IsValidUpTo bs) (sym c.valid_up_to.ensures) h.1); after = λ out _. invalid_output bs c.args.room out h.0; text = tt; bound = tt }
 
-pub returns-in-default : goal.returns-in-default
-returns-in-default c =
+pub returns-in_default : goal.returns-in_default
+returns-in_default c =
     let bs = c.args.source.now in
     let e = c.in-Ok.ensures.cases.0 in
     let u = c.in-Ok.ensures.cases.1 in
-    let r = subst (λ (t : List ℕ). None ≡ repaired_bytes t) e c.in-default.ensures.value in
+    let r = subst (λ (t : List ℕ). None ≡ repaired_bytes t) e c.in_default.ensures.value in
     record { value = same_answer bs c.args.room u r; after = λ out _. same_output bs c.args.room u r out; text = same_text bs c.args.room u r; bound = tt }
 
 pub returns-then-needed-room : goal.returns-then-needed-room

@@ -1,11 +1,8 @@
-use Rattle.std.proofs.Common.{◌≡◌, ℕ, true, cond, not, ◌&&◌, List, [], ◌∷◌, ◌++◌, length, take, Some, None, IsUtf8, Option, sym, refl, ap, ◌∙◌, arith, rules}
+use Rattle.std.proofs.Common.{◌≡◌, ℕ, true, not, List, ◌++◌, take, Some, sym, ap, ◌∙◌}
 use lib.Utf8.{encodes}
 use Rattle.std.specs.Option.{option_map}
 use Rattle.std.specs.Str.{chars}
-use Rattle.std.proofs.lemmas.Bool.{cond-false, cond-true, and_from}
-use Rattle.tail.specs.Texts.{ends_with}
 use Rattle.tail.specs.Entries.{delimiter_row, cell_count, complete, unfinished}
-use Rattle.tail.specs.Cook.{lone_pipe, replaced}
 use Rattle.tail.proofs.Repairs.{bytes_replaced, two_lines}
 use Rattle.tail.proofs.repair.after_two.Goals as goal
 
@@ -14,10 +11,10 @@ returns c =
     let bs = c.args.text.now in
     let h = chars c.args.header.now in
     let l = chars c.args.line.now in
-    let n = c.cell-count-cols.ensures.value in
-    let alone = sym c.lone-pipe.ensures ∙ c.if-lone-pipe.false in
+    let n = c.cell_count-cols.ensures.value in
+    let alone = sym c.lone_pipe.ensures ∙ c.if-lone_pipe.false in
     let open' = sym (ap (λ k. complete k l) n) ∙ (sym c.complete.ensures ∙ c.if-complete.false) in
-    let on : unfinished (chars c.args.line.now) ≡ true = sym c.delimiter-charset.ensures ∙ c.if-not-delimiter-charset.false in
+    let on : unfinished (chars c.args.line.now) ≡ true = sym c.delimiter_charset.ensures ∙ c.if-not-delimiter_charset.false in
     let off = ap not (sym c.requires ∙ c.if-ended.false) in
-    let row = ap (λ k. take c.last-line.result bs ++ delimiter_row k) n ∙ bytes_replaced bs c.last-line.result (cell_count h) c.last-line.ensures.value in
-    record { value = ap (λ (x : List ℕ). Some x) row ∙ sym (ap (option_map encodes) (two_lines h l (chars bs) alone open' on off)); bound = c.last-line.ensures.bound }
+    let row = ap (λ k. take c.last_line.result bs ++ delimiter_row k) n ∙ bytes_replaced bs c.last_line.result (cell_count h) c.last_line.ensures.value in
+    record { value = ap (λ (x : List ℕ). Some x) row ∙ sym (ap (option_map encodes) (two_lines h l (chars bs) alone open' on off)); bound = c.last_line.ensures.bound }

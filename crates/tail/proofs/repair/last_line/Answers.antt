@@ -1,4 +1,4 @@
-use Rattle.std.proofs.Common.{◌≡◌, IsUtf8, sym, arith, rules}
+use Rattle.std.proofs.Common.{IsUtf8, sym, arith, rules}
 use Rattle.tail.proofs.Repairs.{one_line, last_lines, last_place}
 use Rattle.tail.proofs.repair.last_line.Goals as goal
 

@@ -1,4 +1,4 @@
-use Rattle.std.proofs.Common.{◌≡◌, true, cond, List, [], ◌∷◌, ◌++◌, IsUtf8, sym, refl, ap, ◌∙◌, subst, rules}
+use Rattle.std.proofs.Common.{◌≡◌, true, cond, [], ◌∷◌, ◌++◌, IsUtf8, sym, refl, ap, ◌∙◌, subst, rules}
 use Rattle.std.specs.Str.Pattern.{FindsChar, IsSplitAtFirstMatch}
 use Rattle.std.specs.Str.Iter.{split_text, split_has_more, split_pattern}
 use Rattle.std.specs.Str.{chars}
@@ -12,7 +12,7 @@ use Rattle.tail.proofs.scan.run_at_end.Goals as goal
 
 pub loop-line-init : goal.loop-line-init
 loop-line-init c =
-    let i = c.into-iter-line-iterator.result in
+    let i = c.into_iter-line-iterator.result in
     let t = c.args.text.now in
     let u : IsUtf8 t = search rules in
     let k : split_pattern i ≡ 10 = search rules in

@@ -1,4 +1,4 @@
-use Rattle.std.proofs.Common.{◌≡◌, not, IsUtf8, sym, ap, ◌∙◌, rules}
+use Rattle.std.proofs.Common.{not, IsUtf8, sym, ap, ◌∙◌, rules}
 use Rattle.std.specs.Str.{chars}
 use Rattle.tail.specs.Fences.{may_follow}
 use Rattle.tail.proofs.Spelling.{contains_chars}
