@@ -1,4 +1,4 @@
-use Rattle.std.proofs.Common.{◌≡◌, ℕ, ◌+◌, ◌-◌, cond, ltb, [], get_or, is_ok, sym, ap, ◌∙◌}
+use Rattle.std.proofs.Common.{◌≡◌, ℕ, ◌+◌, [], get_or, is_ok, sym, ap, ◌∙◌}
 use Rattle.style.specs.Symbols.{symbol_of}
 use Rattle.page.specs.declared.cells.Cell.{Cell}
 use Rattle.page.specs.Cells.{inked}
@@ -24,6 +24,6 @@ returns g c =
     let over = λ (p q : ℕ). ap (λ n. pair_cell n f' h' p q) (sym ew) ∙ e.cells p q in
     let past = λ (p q : ℕ). ap (λ n. f' (n + p) q) (sym ew) ∙ e.hidden [] p q in
     record {
-      left = λ i j. ap (λ t. (ml.shows t.0).cell i j) c.into-parts-l.ensures.value ∙ below_left w x y f f' h h' (is_ok c.put-answer.result) ink over past i j;
-      right = λ i j. ap (λ t. (mr.shows t.1).cell i j) c.into-parts-l.ensures.value ∙ below_right w x y f f' h h' (is_ok c.put-answer.result) ink over past i j;
+      left = λ i j. ap (λ t. (ml.shows t.0).cell i j) c.into_parts-l.ensures.value ∙ below_left w x y f f' h h' (is_ok c.put-answer.result) ink over past i j;
+      right = λ i j. ap (λ t. (mr.shows t.1).cell i j) c.into_parts-l.ensures.value ∙ below_right w x y f f' h h' (is_ok c.put-answer.result) ink over past i j;
     }
