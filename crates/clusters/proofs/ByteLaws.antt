@@ -1,10 +1,9 @@
 -- The laws of the byte ruler.
-use Rattle.std.proofs.Common.{◌≡◌, ℕ, zero, suc, ◌<◌, ◌≤◌, true, ◌&&◌, leb, List, [], ◌∷◌, length, get_or, arith}
-use Rattle.std.specs.Char.{is_ascii_control}
+use Rattle.std.proofs.Common.{ℕ, zero, suc, ◌≤◌, ◌&&◌, leb, List, ◌∷◌, get_or, arith}
 use Rattle.std.specs.List.{AllByRecursion as All}
 use Rattle.std.proofs.lemmas.Bool.Decides.{nat_tests}
 use Rattle.std.proofs.lemmas.Bool.{cond_both}
-use Rattle.clusters.specs.Cuts.{cut_off, cut, byte_columns, byte_first, HidesControls}
+use Rattle.clusters.specs.Cuts.{cut_off, cut, byte_first, HidesControls}
 use Rattle.clusters.proofs.Cutting.{Onward, cut_all}
 
 pub byte_onward : Onward byte_first

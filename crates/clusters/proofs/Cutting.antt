@@ -1,6 +1,5 @@
 -- Cutting a string, for every way to find the first cluster of what is left.
-use Rattle.std.proofs.Common.{◌≡◌, ℕ, zero, suc, ◌-◌, ◌<◌, ◌≤◌, List, [], ◌∷◌, ◌++◌, length, take, drop, sym, refl, ap, ◌∙◌, subst, arith, take-append-drop}
-use lib.Seq.{drop-nil}
+use Rattle.std.proofs.Common.{◌≡◌, ℕ, zero, suc, ◌-◌, ◌≤◌, List, [], ◌∷◌, ◌++◌, length, take, drop, sym, refl, ap, ◌∙◌, subst, arith, take-append-drop}
 use Rattle.std.specs.List.{flat_map, AllByRecursion as All}
 use Rattle.clusters.specs.declared.Cluster.{Cluster}
 use Rattle.clusters.specs.Cuts.{Cut, cut_off, cut_from, cut}

@@ -1,7 +1,7 @@
 -- Decoding one code point from the bytes at the front.
 use Rattle.std.proofs.Common.{◌≡◌, ℕ, zero, suc, ◌+◌, ◌-◌, ◌*◌, ◌<◌, ◌≤◌, List, [], ◌∷◌, length, get_or, drop, Some, None, Option, sym, refl, ap, ◌∙◌, arith, length-drop, MatchOption}
 use Rattle.std.specs.Str.{chars}
-use Rattle.std.specs.shelf.Text.{chars_after, bytes_after, lead_bits}
+use Rattle.std.specs.Str.{chars_after, continuation_len, lead_bits}
 use Rattle.std.proofs.lemmas.List.{drop-drop}
 use Rattle.std.proofs.lemmas.Bool.Decides.{nat_tests}
 use Rattle.clusters.specs.declared.points.Point.{Point}
@@ -18,10 +18,10 @@ after_short (suc n) c [] h = refl
 after_short (suc n) c (b ∷ s) h = after_short n (c * 64 + (b - 128)) s (omega arith)
 
 -- fewer bytes than the first one asks for spell nothing
-pub decodes_short : (s : List ℕ) → length s < 1 + bytes_after (get_or s 0 0) → chars s ≡ []
+pub decodes_short : (s : List ℕ) → length s < 1 + continuation_len (get_or s 0 0) → chars s ≡ []
 unfolding chars
 decodes_short [] h = refl
-decodes_short (a ∷ s) h = after_short (bytes_after a) (lead_bits a) s (omega arith)
+decodes_short (a ∷ s) h = after_short (continuation_len a) (lead_bits a) s (omega arith)
 
 -- six more bits
 abbrev pub joined_bits : ℕ → ℕ → ℕ
@@ -31,7 +31,7 @@ pub decodes_one : (s : List ℕ) → 1 ≤ length s → get_or s 0 0 < 128 → c
 unfolding chars
 decodes_one [] h l = absurd (omega arith)
 decodes_one (a ∷ s) h l =
-    let e : bytes_after a ≡ 0 = grind (arith, nat_tests) in
+    let e : continuation_len a ≡ 0 = grind (arith, nat_tests) in
     ap (λ n. chars_after n (lead_bits a) s) e ∙ after_none (lead_bits a) s
 
 pub decodes_two : (s : List ℕ) → 2 ≤ length s → 128 ≤ get_or s 0 0 → get_or s 0 0 < 224 → chars s ≡ joined_bits (lead_bits (get_or s 0 0)) (get_or s 1 0) ∷ chars (drop 2 s)
@@ -39,7 +39,7 @@ unfolding chars
 decodes_two [] h l u = absurd (omega arith)
 decodes_two (a ∷ []) h l u = absurd (omega arith)
 decodes_two (a ∷ b ∷ s) h l u =
-    let e : bytes_after a ≡ 1 = grind (arith, nat_tests) in
+    let e : continuation_len a ≡ 1 = grind (arith, nat_tests) in
     ap (λ n. chars_after n (lead_bits a) (b ∷ s)) e ∙ after_none (joined_bits (lead_bits a) b) s
 
 pub decodes_three : (s : List ℕ) → 3 ≤ length s → 224 ≤ get_or s 0 0 → get_or s 0 0 < 240 → chars s ≡ joined_bits (joined_bits (lead_bits (get_or s 0 0)) (get_or s 1 0)) (get_or s 2 0) ∷ chars (drop 3 s)
@@ -48,7 +48,7 @@ decodes_three [] h l u = absurd (omega arith)
 decodes_three (a ∷ []) h l u = absurd (omega arith)
 decodes_three (a ∷ b ∷ []) h l u = absurd (omega arith)
 decodes_three (a ∷ b ∷ d ∷ s) h l u =
-    let e : bytes_after a ≡ 2 = grind (arith, nat_tests) in
+    let e : continuation_len a ≡ 2 = grind (arith, nat_tests) in
     ap (λ n. chars_after n (lead_bits a) (b ∷ d ∷ s)) e ∙ after_none (joined_bits (joined_bits (lead_bits a) b) d) s
 
 pub decodes_four : (s : List ℕ) → 4 ≤ length s → 240 ≤ get_or s 0 0 → chars s ≡ joined_bits (joined_bits (joined_bits (lead_bits (get_or s 0 0)) (get_or s 1 0)) (get_or s 2 0)) (get_or s 3 0) ∷ chars (drop 4 s)
@@ -58,7 +58,7 @@ decodes_four (a ∷ []) h l = absurd (omega arith)
 decodes_four (a ∷ b ∷ []) h l = absurd (omega arith)
 decodes_four (a ∷ b ∷ d ∷ []) h l = absurd (omega arith)
 decodes_four (a ∷ b ∷ d ∷ f ∷ s) h l =
-    let e : bytes_after a ≡ 3 = grind (arith, nat_tests) in
+    let e : continuation_len a ≡ 3 = grind (arith, nat_tests) in
     ap (λ n. chars_after n (lead_bits a) (b ∷ d ∷ f ∷ s)) e ∙ after_none (joined_bits (joined_bits (joined_bits (lead_bits a) b) d) f) s
 
 -- what is read at the front of a part is read at its place in the whole

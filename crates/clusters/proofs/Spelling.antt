@@ -1,5 +1,5 @@
 -- Text as code points: how many bytes the first cluster takes, and that it hides its control bytes.
-use Rattle.std.proofs.Common.{◌≡◌, ℕ, zero, suc, ◌+◌, ◌-◌, ◌<◌, ◌≤◌, min, Bool, true, false, cond, ◌&&◌, leb, List, [], ◌∷◌, ◌++◌, length, get_or, take, drop, IsUtf8, Decides, sym, refl, ap, ◌∙◌, subst, ⊎_elim, append_assoc, arith, length-append, take-append-drop}
+use Rattle.std.proofs.Common.{◌≡◌, ℕ, zero, suc, ◌+◌, ◌-◌, ◌<◌, ◌≤◌, min, true, false, cond, ◌&&◌, leb, List, [], ◌∷◌, ◌++◌, length, get_or, take, drop, IsUtf8, Decides, sym, refl, ap, ◌∙◌, subst, ⊎_elim, append_assoc, arith, length-append, take-append-drop}
 use native.Mathlib.Nat.{min-eq_right}
 use lib.Utf8.{scalar, scalars, encode, encodes}
 use Rattle.std.specs.Char.{len_utf8, is_ascii_control}
@@ -8,12 +8,11 @@ use Rattle.std.specs.Str.{chars, bytes_eq}
 use Rattle.std.proofs.lemmas.Bool.Decides.{nat_tests}
 use Rattle.std.proofs.lemmas.Bool.{and_parts, and_from, cond-true, cond-false, cond_both, cases_Bool, cases_lt, leb-true}
 use Rattle.std.proofs.lemmas.Slice.Eq.{bytes_eq-Decides}
-use Rattle.std.proofs.lemmas.List.{get_or_append_left, get_or-append_right, take_at, drop_at}
+use Rattle.std.proofs.lemmas.List.{get_or-append_right, take_at, drop_at}
 use Rattle.std.proofs.lemmas.Str.{chars-encodes, scalars-chars, encodes-chars, length-encode, inside_one, encodes-append, len_utf8_bounds}
-use Rattle.clusters.specs.declared.Cluster.{Cluster}
 use Rattle.clusters.specs.Widths.{inside, zero_width, wide, is_control, is_mark, columns_of}
 use Rattle.clusters.specs.Texts.{is_text}
-use Rattle.clusters.specs.Cuts.{Cut, cut_off, cut, mark_bytes, point_first, utf8_first, HidesControls}
+use Rattle.clusters.specs.Cuts.{cut_off, cut, mark_bytes, point_first, utf8_first, HidesControls}
 use Rattle.clusters.proofs.Cutting.{Onward, cut_all}
 
 -- the test finds exactly the text

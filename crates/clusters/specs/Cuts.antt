@@ -1,7 +1,6 @@
 -- Cutting a byte string into clusters, and the first cluster of what is left, for the byte ruler and the UTF-8 ruler.
-use Rattle.std.specs.Prelude.{◌≡◌, ℕ, zero, suc, ◌+◌, ◌-◌, ◌<◌, ◌≤◌, min, Bool, true, cond, ◌&&◌, List, [], ◌∷◌, length, take, nat_le, slice_index}
+use Rattle.std.specs.Prelude.{◌≡◌, ℕ, zero, suc, ◌+◌, ◌-◌, ◌<◌, min, true, cond, ◌&&◌, List, [], ◌∷◌, length, take, nat_le, slice_index}
 use Rattle.std.specs.Char.{len_utf8 as width, is_ascii_control}
-use Rattle.std.specs.List.{flat_map, AllByRecursion as All}
 use Rattle.std.specs.Str.{chars}
 use Rattle.clusters.specs.declared.Cluster.{Cluster}
 use Rattle.clusters.specs.Widths.{is_control, is_mark, columns_of}

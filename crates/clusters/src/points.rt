@@ -1,9 +1,8 @@
 // Reading one code point from the bytes that spell it. Bytes that are no text spell something too: what
-// `decodes` of the standard library says of them.
+// `chars` of the standard library says of them.
 ghost use Rattle.std.specs.Prelude.{◌≡◌, ◌+◌, ◌-◌, ◌*◌, ◌^◌, ◌<◌, ◌≤◌, [], ◌∷◌, length, drop, MatchOption};
 ghost use Rattle.std.specs.Char.{len_utf8};
-ghost use Rattle.std.specs.Str.{chars};
-ghost use Rattle.std.specs.shelf.Text.{«lead_bits»};
+ghost use Rattle.std.specs.Str.{chars, lead_bits};
 
 // A code point, and how many bytes spell it.
 #[derive(Clone, Copy)]

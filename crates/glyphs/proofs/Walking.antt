@@ -1,5 +1,5 @@
 -- Glyphs written into memory, and the walk through a text.
-use Rattle.std.proofs.Common.{◌≡◌, ℕ, zero, suc, ◌+◌, ◌-◌, ◌<◌, ◌≤◌, min, Bool, true, false, cond, eqb, List, [], ◌∷◌, ◌++◌, length, get_or, take, drop, set, replicate, sym, refl, ap, ◌∙◌, subst, ⊎_elim, append_assoc, add-zero, arith, length-append, length-drop, length-set, take-append-drop, length-take, take-suc-set}
+use Rattle.std.proofs.Common.{◌≡◌, ℕ, suc, ◌+◌, ◌-◌, ◌<◌, ◌≤◌, min, Bool, true, false, cond, eqb, List, [], ◌∷◌, ◌++◌, length, get_or, take, drop, set, replicate, sym, refl, ap, ◌∙◌, subst, ⊎_elim, append_assoc, add-zero, arith, length-append, length-drop, length-set, take-append-drop, length-take, take-suc-set}
 use lib.Seq.{sets, length-sets, take-nil}
 use Rattle.std.proofs.lemmas.List.{length-replicate, take-replicate, take_all, drop_all, drop-drop, drop-set-lt, drop_more, set_past}
 use Rattle.std.proofs.lemmas.Bool.{cases_lt}

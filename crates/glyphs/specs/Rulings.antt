@@ -1,6 +1,6 @@
 -- What a ruler means, and what the two supplied rulers mean. Their laws are proved in the crate below.
 use Rattle.std.specs.Prelude.{◌≡◌, ℕ, ◌≤◌, Bool, true, List, ◌∷◌, length, drop}
-use Rattle.std.specs.List.{flat_map, AllByRecursion as All}
+use Rattle.std.specs.List.{flat_map, AllByRecursion}
 use Rattle.clusters.specs.declared.Cluster.{Cluster}
 use Rattle.clusters.specs.Texts.{is_text}
 use Rattle.clusters.specs.Cuts.{Cut, cut_off, cut, HidesControls, byte_first, utf8_first}
@@ -21,7 +21,7 @@ pub record Ruling : Type 0 where
   -- the clusters of an admitted string join to it
   pub joins : (s : List ℕ) → admits s ≡ true → flat_map (λ c. c.bytes) (cut first s) ≡ s
   -- a cluster of an admitted string hides its control bytes
-  pub hides : (s : List ℕ) → admits s ≡ true → All HidesControls (cut first s)
+  pub hides : (s : List ℕ) → admits s ≡ true → AllByRecursion HidesControls (cut first s)
 
 -- The cluster of a string that begins at a place.
 abbrev pub cut_at : Ruling → List ℕ → ℕ → Cut

@@ -11,7 +11,7 @@
 #![tactic(auto)]
 
 ghost use Rattle.std.specs.Prelude.{◌≡◌, ◌+◌, ◌-◌, ◌^◌, ◌<◌, ◌≤◌, min, true, length, drop, IfSome, MatchOption};
-ghost use Rattle.std.specs.List.{AllByRecursion as All};
+ghost use Rattle.std.specs.List.{AllByRecursion};
 ghost use Rattle.style.specs.declared.Style.{Style as Look};
 ghost use Rattle.glyphs.specs.Rulings.{Ruling, cut_at, byte_ruling, utf8_ruling};
 ghost use Rattle.glyphs.specs.Glyphs.{is_space, sanitized, overwritten, Sized, Clean};
@@ -122,8 +122,8 @@ pub fn sanitize<R: Ruler>(
 ) -> usize
     ensures value { result ≡ min (length (sanitized (R.Ruler.meaning ruler.now) style text.now)) (length glyphs.old - from) }
     ensures after { glyphs.new ≡ overwritten glyphs.old from (sanitized (R.Ruler.meaning ruler.now) style text.now) }
-    ensures bound { All Sized (sanitized (R.Ruler.meaning ruler.now) style text.now) }
-    ensures clean { (R.Ruler.meaning ruler.now).admits text.now ≡ true → All Clean (sanitized (R.Ruler.meaning ruler.now) style text.now) }
+    ensures bound { AllByRecursion Sized (sanitized (R.Ruler.meaning ruler.now) style text.now) }
+    ensures clean { (R.Ruler.meaning ruler.now).admits text.now ≡ true → AllByRecursion Clean (sanitized (R.Ruler.meaning ruler.now) style text.now) }
 {
     let mut written = 0;
     let mut at = 0;

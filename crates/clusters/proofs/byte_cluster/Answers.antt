@@ -1,4 +1,4 @@
-use Rattle.std.proofs.Common.{◌≡◌, ℕ, get_or, drop, sym, ap, ◌∙◌, add-zero, rules}
+use Rattle.std.proofs.Common.{◌≡◌, ℕ, get_or, drop, sym, ap, ◌∙◌, add-zero}
 use Rattle.std.proofs.lemmas.List.{get_or-drop}
 use Rattle.clusters.specs.declared.Cluster.{Cluster}
 use Rattle.clusters.specs.Cuts.{byte_columns}
@@ -12,4 +12,4 @@ returns c =
     let s = c.args.text.now in
     let i = c.args.at in
     let e : get_or (drop i s) 0 0 ≡ get_or s i 0 = get_or-drop i s 0 0 ∙ ap (λ n. get_or s n 0) (add-zero i) in
-    record { value = ap one (c.byte-columns.ensures.value ∙ ap byte_columns (c.byte-at.ensures.value ∙ sym e)) }
+    record { value = ap one (c.byte_columns.ensures.value ∙ ap byte_columns (c.byte_at.ensures.value ∙ sym e)) }

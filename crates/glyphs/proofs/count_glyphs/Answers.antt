@@ -1,4 +1,4 @@
-use Rattle.std.proofs.Common.{◌≡◌, length, ap, ◌∙◌, arith}
+use Rattle.std.proofs.Common.{length, ap, arith}
 use Rattle.glyphs.proofs.Walking.{count_step, sanitized-none}
 use Rattle.glyphs.proofs.count_glyphs.Goals as goal
 
@@ -19,4 +19,4 @@ pub returns : goal.returns
 returns g c =
     let m = g.R.Ruler.meaning c.args.ruler.now in
     let s = c.args.text.now in
-    record { value = λ t. omega (arith, ap length (sanitized-none m t s c.loop-cut.at c.in-default.ensures.cases), c.loop-cut.invariant.2 t) }
+    record { value = λ t. omega (arith, ap length (sanitized-none m t s c.loop-cut.at c.in_default.ensures.cases), c.loop-cut.invariant.2 t) }

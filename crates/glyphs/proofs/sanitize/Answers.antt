@@ -1,4 +1,4 @@
-use Rattle.std.proofs.Common.{◌≡◌, ◌+◌, length, drop, sym, ap, ◌∙◌, arith, rules}
+use Rattle.std.proofs.Common.{◌+◌, length, sym, ap, ◌∙◌, arith, rules}
 use lib.Seq.{sets}
 use Rattle.glyphs.specs.Glyphs.{sanitized}
 use Rattle.glyphs.proofs.Walking.{count_step, written_step, sanitized-none, overwritten_sets}
@@ -26,7 +26,7 @@ loop-cut-preserved g c =
       omega (arith, told.bound),
       c.fill-written.auto.glyphs ∙ c.loop-cut.auto.glyphs,
       omega arith,
-      written_step m t s bs at w h b d l c.loop-cut.glyphs hs p k q c.glyph-count-count.result c.glyph-of.result c.glyph-count-count.ensures.value c.glyph-of.ensures.value c.fill-written.ensures.after c.fill-written.ensures.value (omega arith)
+      written_step m t s bs at w h b d l c.loop-cut.glyphs hs p k q c.glyph_count-count.result c.glyph_of.result c.glyph_count-count.ensures.value c.glyph_of.ensures.value c.fill-written.ensures.after c.fill-written.ensures.value (omega arith)
           ∙ c.loop-cut.invariant.3,
       omega arith,
     )
@@ -36,7 +36,7 @@ returns g c =
     let m = g.R.Ruler.meaning c.args.ruler.now in
     let t = c.args.style in
     let s = c.args.text.now in
-    let z = sanitized-none m t s c.loop-cut.at c.in-default.ensures.cases in
+    let z = sanitized-none m t s c.loop-cut.at c.in_default.ensures.cases in
     record {
       value = omega (arith, ap length z);
       after = ap (λ l. sets c.loop-cut.glyphs (c.args.from + c.loop-cut.written) l) (sym z) ∙ c.loop-cut.invariant.3 ∙ sym (overwritten_sets c.args.glyphs.now c.args.from (sanitized m t s));

@@ -1,4 +1,4 @@
-use Rattle.std.proofs.Common.{◌≡◌, ◌+◌, ◌-◌, ◌^◌, ◌≤◌, min, length, drop}
+use Rattle.std.proofs.Common.{◌≡◌, ◌+◌, ◌-◌, ◌≤◌, min, length, drop}
 use lib.Seq.{sets}
 use Rattle.glyphs.specs.Glyphs.{sanitized}
 use Rattle.glyphs.proofs.sanitize.Given as goal

@@ -8,8 +8,8 @@ loop-start-preserved g c =
     let b = g.R.BreakingRule.meaning c.args.rule.now in
     let line = c.args.line.now in
     let w = c.args.width in
-    row_counted b line w c.loop-start.rows c.loop-start.start c.next-start-start.result (rows_from b.breaks line w (length line) 0)
-    c.loop-start-test.true c.loop-start.invariant.0 c.next-start-start.ensures.value c.loop-start.invariant.2
+    row_counted b line w c.loop-start.rows c.loop-start.start c.next_start-start.result (rows_from b.breaks line w (length line) 0)
+    c.loop-start-test.true c.loop-start.invariant.0 c.next_start-start.ensures.value c.loop-start.invariant.2
 
 pub returns : goal.returns
 returns g c =

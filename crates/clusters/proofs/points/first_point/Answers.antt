@@ -1,6 +1,6 @@
-use Rattle.std.proofs.Common.{◌≡◌, ℕ, ◌+◌, ◌<◌, ◌≤◌, ◌∷◌, length, get_or, drop, sym, ap, ◌∙◌, arith, rules}
+use Rattle.std.proofs.Common.{◌≡◌, ◌+◌, ◌<◌, ◌≤◌, ◌∷◌, length, get_or, drop, sym, ap, ◌∙◌, arith, rules}
 use Rattle.std.specs.Str.{chars}
-use Rattle.std.specs.shelf.Text.{bytes_after, lead_bits}
+use Rattle.std.specs.Str.{continuation_len, lead_bits}
 use Rattle.std.proofs.lemmas.Bool.Decides.{nat_tests}
 use Rattle.clusters.proofs.Decoding.{decodes_short, joined_bits, decodes_one, decodes_two, decodes_three, decodes_four}
 use Rattle.clusters.proofs.points.first_point.Goals as goal
@@ -41,26 +41,26 @@ returns-in-len4-up c =
     ∙ ap (λ n. joined_bits n (get_or s 2 0)) (c.more-in-len4-up.ensures.value ∙ ap (λ n. joined_bits n (get_or s 1 0)) c.lead-in-len4-up.ensures.value)) in
     record { cases = (e ∙ ap (λ n. n ∷ chars (drop 4 s)) (sym v), l) }
 
-pub returns-in-default : goal.returns-in-default
-returns-in-default c =
+pub returns-in_default : goal.returns-in_default
+returns-in_default c =
     let s = c.args.bytes.now in
-    let l : length s < 1 + bytes_after (get_or s 0 0) = grind (arith, nat_tests) in
+    let l : length s < 1 + continuation_len (get_or s 0 0) = grind (arith, nat_tests) in
     record { cases = decodes_short s l }
 
-pub returns-in-default·2 : goal.returns-in-default·2
-returns-in-default·2 c =
+pub returns-in_default-2 : goal.returns-in_default-2
+returns-in_default-2 c =
     let s = c.args.bytes.now in
-    let l : length s < 1 + bytes_after (get_or s 0 0) = grind (arith, nat_tests) in
+    let l : length s < 1 + continuation_len (get_or s 0 0) = grind (arith, nat_tests) in
     record { cases = decodes_short s l }
 
-pub returns-in-default·3 : goal.returns-in-default·3
-returns-in-default·3 c =
+pub returns-in_default-3 : goal.returns-in_default-3
+returns-in_default-3 c =
     let s = c.args.bytes.now in
-    let l : length s < 1 + bytes_after (get_or s 0 0) = grind (arith, nat_tests) in
+    let l : length s < 1 + continuation_len (get_or s 0 0) = grind (arith, nat_tests) in
     record { cases = decodes_short s l }
 
-pub returns-in-default·4 : goal.returns-in-default·4
-returns-in-default·4 c =
+pub returns-in_default-4 : goal.returns-in_default-4
+returns-in_default-4 c =
     let s = c.args.bytes.now in
-    let l : length s < 1 + bytes_after (get_or s 0 0) = grind (arith, nat_tests) in
+    let l : length s < 1 + continuation_len (get_or s 0 0) = grind (arith, nat_tests) in
     record { cases = decodes_short s l }

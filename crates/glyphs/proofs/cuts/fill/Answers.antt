@@ -1,4 +1,4 @@
-use Rattle.std.proofs.Common.{◌≡◌, ◌+◌, ◌-◌, ◌++◌, length, take, drop, replicate, sym, refl, ap, ◌∙◌, arith, take-append-drop, rules}
+use Rattle.std.proofs.Common.{◌+◌, ◌-◌, sym, ◌∙◌, arith, take-append-drop, rules}
 use Rattle.glyphs.proofs.Walking.{filled, part_filled}
 use Rattle.glyphs.proofs.cuts.fill.Goals as goal
 

@@ -5,13 +5,13 @@ use Rattle.wrap.proofs.WordRuleBreakingRule.break_row.Goals as goal
 pub returns-in-Some : goal.returns-in-Some
 returns-in-Some c =
     record {
-      value = word_breaks_at c.args.line.now c.args.width c.args.start c.first-misfit-misfit.result c.first-misfit-misfit.ensures.value
+      value = word_breaks_at c.args.line.now c.args.width c.args.start c.first_misfit-misfit.result c.first_misfit-misfit.ensures.value
           (search rules) (search rules) c.in-Some.space c.in-Some.ensures.cases;
     }
 
 pub returns-in-None : goal.returns-in-None
 returns-in-None c =
     record {
-      value = word_unbroken c.args.line.now c.args.width c.args.start c.first-misfit-misfit.result c.first-misfit-misfit.ensures.value
+      value = word_unbroken c.args.line.now c.args.width c.args.start c.first_misfit-misfit.result c.first_misfit-misfit.ensures.value
           (search rules) (search rules) c.in-None.ensures.cases;
     }

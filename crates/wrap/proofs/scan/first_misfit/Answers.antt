@@ -15,7 +15,7 @@ loop-at-preserved c =
     omega (
       arith,
       fitting_step line w c.loop-at.room at c.loop-at-test.true room,
-      ap (λ n. fitting w (c.loop-at.room - n) (drop (at + 1) line)) c.columns-of-room.ensures.value,
+      ap (λ n. fitting w (c.loop-at.room - n) (drop (at + 1) line)) c.columns_of-room.ensures.value,
     )
 
 pub returns-else-fits : goal.returns-else-fits
