@@ -6,7 +6,7 @@
 
 #![tactic(auto)]
 
-ghost use Rattle.std.specs.Prelude.{◌≡◌, ℕ, ◌+◌, ◌*◌, length, replicate, is_ok, if◌then◌else◌};
+ghost use Rattle.std.specs.Prelude.{◌≡◌, ℕ, ◌+◌, ◌*◌, ◌<◌, length, replicate, is_ok, if◌then◌else◌, slice_set};
 ghost use Rattle.style.specs.Symbols.{symbol_of};
 ghost use Rattle.page.specs.Cells.{fresh};
 ghost use Rattle.page.specs.Refusals.{told, memory_answer, memory_told};
@@ -17,6 +17,21 @@ ghost use Rattle.grid.specs.Grids.{grid_shows, grid_held, grid_rest, GridLawful}
 
 use page::{Cell, Refusal, Surface, admit, check_memory, place};
 use style::Style;
+
+// Makes each cell fresh.
+fn freshen(cells: &mut [Cell])
+    ensures after { cells.new ≡ replicate (length cells.old) fresh }
+{
+    cells.fill(Cell::FRESH);
+}
+
+// Writes one cell; the others stay.
+fn write(cells: &mut [Cell], i: usize, cell: Cell)
+    requires { i < length cells.old }
+    ensures after { cells.new ≡ slice_set cells.old i cell }
+{
+    cells[i] = cell;
+}
 
 #[derive(Drop)]
 pub struct Grid<'a> {
@@ -51,7 +66,7 @@ impl<'a> Grid<'a> {
                 height: 0,
             };
         }
-        cells.fill(Cell::FRESH);
+        freshen(cells);
         Grid {
             cells,
             width,
@@ -98,7 +113,7 @@ impl<'a> Surface for Grid<'a> {
         let symbol = admit(self.width(), self.height(), x, y, symbol, style)?;
         let i = place(self.width, x, y);
         let cell = self.cells[i].tidy().inked(symbol, style);
-        self.cells[i] = cell;
+        write(self.cells, i, cell);
         Ok(())
     }
 }

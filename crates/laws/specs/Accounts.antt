@@ -1,6 +1,6 @@
 -- What blocks account for.
 use Rattle.std.specs.Prelude.{◌≡◌, ℕ, ◌+◌, ◌<◌, ◌≤◌, List, [], ◌∷◌, length}
-use Rattle.std.specs.List.{AllByRecursion as All}
+use Rattle.std.specs.List.{AllByRecursion}
 use Rattle.blocks.specs.Pieces.{Line, Piece, text, table, trim}
 use Rattle.blocks.specs.Needs.{Needs, needs}
 
@@ -27,7 +27,7 @@ account (p ∷ ps) = needs ((weigh p).glyphs + (account ps).glyphs) ((weigh p).l
 -- A table has 1 to 32 columns, and each of its rows an entry for each of them.
 abbrev pub Even : Piece → Type 0
 Even (text ls) = Unit {0}
-Even (table i rs) = (1 ≤ i.columns) × (i.columns ≤ 32) × All (λ row. length row ≡ i.columns) rs
+Even (table i rs) = (1 ≤ i.columns) × (i.columns ≤ 32) × AllByRecursion (λ row. length row ≡ i.columns) rs
 
 -- A text has a line, and its last line is not empty.
 abbrev pub Solid : Piece → Type 0

@@ -1,5 +1,5 @@
 use Rattle.std.specs.Prelude.{◌≡◌, ℕ, ◌≤◌, List, Ok}
-use Rattle.std.specs.List.{AllByRecursion as All}
+use Rattle.std.specs.List.{AllByRecursion}
 use Rattle.glyphs.specs.Rulings.{Ruling}
 use Rattle.events.specs.declared.event.Event.{Event}
 use Rattle.events.specs.declared.styles.MarkdownStyles.{MarkdownStyles}
@@ -25,8 +25,8 @@ SettlingLosesEmptyLines = (ps : List Piece) →
 
 -- Where the events are admitted, every row of a table has an entry for each of its columns.
 abbrev pub RowsAreEven : Type 0
-RowsAreEven = (r : Ruling) (y : MarkdownStyles) (text source : List ℕ) (es : List Event) → checked r.admits text es ≡ Ok tt → All Even (parsed r y text source es)
+RowsAreEven = (r : Ruling) (y : MarkdownStyles) (text source : List ℕ) (es : List Event) → checked r.admits text es ≡ Ok tt → AllByRecursion Even (parsed r y text source es)
 
 -- No block is an empty text, nor ends with an empty line.
 abbrev pub TextsAreSolid : Type 0
-TextsAreSolid = (r : Ruling) (y : MarkdownStyles) (text source : List ℕ) (es : List Event) → All Solid (parsed r y text source es)
+TextsAreSolid = (r : Ruling) (y : MarkdownStyles) (text source : List ℕ) (es : List Event) → AllByRecursion Solid (parsed r y text source es)

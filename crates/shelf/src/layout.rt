@@ -97,6 +97,14 @@ pub fn write_bytes(bytes: &mut [u8], p: usize, new: &[u8; 16])
     bytes[p..p + CELL].copy_from_slice(new);
 }
 
+// Writes the 16 bytes of a cell from p on.
+pub fn write_cell(bytes: &mut [u8], p: usize, cell: Cell)
+    requires { p + 16 ≤ length bytes.old }
+    ensures after { bytes.new ≡ written bytes.old p (cell_bytes cell) }
+{
+    write_bytes(bytes, p, &cell_bytes(cell));
+}
+
 pub fn holds(bytes: &[u8], p: usize, new: &[u8; 16]) -> bool
     requires { p + 16 ≤ length bytes.now }
     ensures value { result ≡ holds bytes.now p new.now }

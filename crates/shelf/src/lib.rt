@@ -7,7 +7,7 @@
 
 #![tactic(auto)]
 
-ghost use Rattle.std.specs.Prelude.{◌≡◌, ℕ, ◌+◌, ◌*◌, ◌≤◌, length, is_some, is_ok, if◌then◌else◌};
+ghost use Rattle.std.specs.Prelude.{◌≡◌, ℕ, ◌+◌, ◌*◌, ◌^◌, ◌<◌, ◌≤◌, length, is_some, is_ok, if◌then◌else◌};
 ghost use Rattle.style.specs.Symbols.{symbol_of};
 ghost use Rattle.page.specs.Cells.{fresh, tidy};
 ghost use Rattle.page.specs.Refusals.{told, memory_answer, memory_told};
@@ -21,9 +21,18 @@ mod checks;
 mod layout;
 
 use checks::{blocks, fault, sides_of};
-use layout::{BLOCK, cell_bytes, fill_fresh, read_cell, slot, write_bytes};
+use layout::{BLOCK, fill_fresh, read_cell, slot, write_cell};
 use page::{Cell, Refusal, Surface, admit, check_memory, place};
 use style::Style;
+
+// Makes the bytes a page of these sides, all cells fresh.
+fn freshen(bytes: &mut [u8], width: u16, height: u16)
+    requires length { length bytes.old ≡ shelf_length width height }
+    requires bound { length bytes.old < 2 ^ 40 }
+    ensures after { bytes.new ≡ shelved width height (λ _. fresh) }
+{
+    fill_fresh(bytes, width, height);
+}
 
 #[derive(Drop)]
 pub struct Shelf<'a> {
@@ -58,7 +67,7 @@ impl<'a> Shelf<'a> {
                 height: 0,
             };
         }
-        fill_fresh(bytes, width, height);
+        freshen(bytes, width, height);
         Shelf {
             bytes,
             width,
@@ -147,7 +156,7 @@ impl<'a> Surface for Shelf<'a> {
         let symbol = admit(self.width(), self.height(), x, y, symbol, style)?;
         let p = slot(place(self.width, x, y));
         let cell = self.cell_from(p).inked(symbol, style);
-        write_bytes(self.bytes, p, &cell_bytes(cell));
+        write_cell(self.bytes, p, cell);
         Ok(())
     }
 }

@@ -16,7 +16,7 @@ returns g c =
     let L = limited (needed r y t o es) c.args.glyphs c.args.lines c.args.rows in
     let C = checked r.admits t es in
     record {
-      value = c.check-amounts.ensures.value ∙ (dry_limits r y t o es c.count-used.result c.args.glyphs c.args.lines c.args.rows c.count-used.ensures.value
-          ∙ (then_next C L (sym c.check.ensures.value ∙ c.in-ok-check.was)
-          ∙ then_next (styles_checked 0 (in_order y)) (and_then C L) (sym c.check-styles.ensures.value ∙ c.in-ok-check-styles.was)));
+      value = c.check_amounts.ensures.value ∙ (dry_limits r y t o es c.count-used.result c.args.glyphs c.args.lines c.args.rows c.count-used.ensures.value
+          ∙ (then_next C L (sym c.check.ensures.value ∙ c.in_ok-check.was)
+          ∙ then_next (styles_checked 0 (in_order y)) (and_then C L) (sym c.check_styles.ensures.value ∙ c.in_ok-check_styles.was)));
     }

@@ -15,7 +15,7 @@ returns g c =
     let gs = c.args.records.now.glyphs.now in
     let ls = c.args.records.now.lines.now in
     let rs = c.args.records.now.rows.now in
-    let ok = sym c.in-ok-judge.was ∙ c.judge.ensures.value in
+    let ok = sym c.in_ok-judge.was ∙ c.judge.ensures.value in
     record {
       answer = ok;
       blocks = ap blocks_of c.fill.ensures.after ∙ load_shows r y t o es gs ls rs (sym ok);

@@ -1,5 +1,6 @@
-use Rattle.std.proofs.Common.{◌≡◌, ◌*◌, true, cond, length, replicate, sym, refl, ap, ◌∙◌, rules}
+use Rattle.std.proofs.Common.{◌≡◌, ◌*◌, true, cond, length, replicate, sym, refl, ap, ◌∙◌}
 use Rattle.std.proofs.lemmas.Bool.{cond-true}
+use Rattle.std.proofs.lemmas.List.{length-replicate}
 use Rattle.page.specs.Cells.{fresh, sound}
 use Rattle.page.specs.Refusals.{memory_answer}
 use Rattle.page.specs.Rows.{fits, rows_page}
@@ -14,11 +15,11 @@ returns c =
     let w = c.args.width in
     let h = c.args.height in
     let m = length c.args.cells.now in
-    let after = c.fill.new.self in
+    let after = c.freshen.new.cells in
     let fit : fits w h (w * h) m ≡ true =
     not_refused c.check.result (memory_answer w h (w * h) m) c.check.ensures.value (sym c.is_err.ensures.value ∙ c.if-is_err.false) in
-    let all : after ≡ replicate (w * h) fresh = c.fill.ensures.after (λ y e. search rules) ∙ ap (λ k. replicate k fresh) (fitting w h (w * h) m fit).0 in
-    let kept = c.fill.ensures.len in
+    let all : after ≡ replicate (w * h) fresh = c.freshen.ensures.after ∙ ap (λ k. replicate k fresh) (fitting w h (w * h) m fit).0 in
+    let kept = ap length all ∙ length-replicate (w * h) fresh ∙ sym (fitting w h (w * h) m fit).0 in
     record {
       memory = all ∙ sym (cond-true (fits w h (w * h) m) (replicate (w * h) fresh) c.args.cells.now fit);
       wide = ap (λ k. cond (fits w h (w * h) k) w 0) kept;

@@ -1,6 +1,6 @@
 use Rattle.std.proofs.Common.{◌≡◌, ℕ, ◌+◌, ◌*◌, ◌<◌, cond, eqb, [], ◌∷◌, length, get_or, set, ap, ◌∙◌, arith, length-set, rules}
 use Rattle.style.specs.Symbols.{symbol_of}
-use Rattle.page.specs.Cells.{inked, tidy}
+use Rattle.page.specs.Cells.{inked, sound, tidy}
 use Rattle.page.specs.Rows.{fits, rows_page}
 use Rattle.page.proofs.Puts.{Admitted, admitted}
 use Rattle.page.proofs.Rows.{Placed, placed, rows_made, rows-sound, rows_cells}
@@ -25,8 +25,8 @@ on c =
 pub bounds-self-i : goal.bounds-self-i
 bounds-self-i c = omega (arith, (on c).place, (on c).lent)
 
-pub bounds-self-i-2 : goal.bounds-self-i-2
-bounds-self-i-2 c = bounds-self-i (goal.at.bounds-self-i-2 c).After-place-i
+pub write-requires : goal.write-requires
+write-requires c = bounds-self-i (goal.at.write-requires c).After-place-i
 
 pub returns : goal.returns
 returns c =
@@ -34,16 +34,18 @@ returns c =
     let cells = g.cells.now in
     let v = c.inked-cell.result in
     let i = c.place-i.result in
+    let new = c.write.new.cells in
     let before = (goal.at.returns c).After-place-i in
-    let lt = bounds-self-i-2 c in
+    let lt = bounds-self-i before in
     let at = c.place-i.ensures.value in
-    let kept = length-set cells i v in
+    let wrote : new ≡ set cells i v = c.write.ensures.after in
+    let kept : length new ≡ length cells = ap length wrote ∙ length-set cells i v in
     let made : v ≡ inked c.in_ok-symbol.symbol c.args.style (tidy (cell_at cells (c.args.y * g.width + c.args.x))) =
     c.inked-cell.ensures.value
     ∙ ap (λ d. inked c.in_ok-symbol.symbol c.args.style d) c.tidy.ensures.value
     ∙ ap (λ k. inked c.in_ok-symbol.symbol c.args.style (tidy (cell_at cells k))) at in
-    let step : (k : ℕ) → k < g.width * g.height → cell_at (set cells i v) k ≡ cond (eqb k (c.args.y * g.width + c.args.x)) v (cell_at cells k) =
-    λ k _. cell_at-set cells i v lt k ∙ ap (λ n. cond (eqb k n) v (cell_at cells k)) at in
+    let step : (k : ℕ) → k < g.width * g.height → cell_at new k ≡ cond (eqb k (c.args.y * g.width + c.args.x)) v (cell_at cells k) =
+    λ k _. ap (λ xs. cell_at xs k) wrote ∙ cell_at-set cells i v lt k ∙ ap (λ n. cond (eqb k n) v (cell_at cells k)) at in
     let n = g.width * g.height in
     let bytes : (b : ℕ) → get_or c.args.symbol.now b 0 < 256 = λ b. search rules in
     record {
@@ -51,21 +53,23 @@ returns c =
         value = (ok before).value;
         numbers = (ok before).numbers;
         cells = λ a b.
-            ap (λ m. (rows_page g.width g.height n m (cell_at (set cells i v))).cell a b) kept
+            ap (λ m. (rows_page g.width g.height n m (cell_at new)).cell a b) kept
             ∙ rows_cells g.width g.height n (length cells) c.args.x c.args.y c.args.symbol.now c.args.style c.in_ok-symbol.symbol
-            (cell_at cells) v bytes (ok before) made (cell_at (set cells i v)) step a b;
+            (cell_at cells) v bytes (ok before) made (cell_at new) step a b;
         as_wide = ap (λ m. cond (fits g.width g.height n m) g.width 0) kept;
         as_high = ap (λ m. cond (fits g.width g.height n m) g.height 0) kept;
         kept = ap (λ m. g.cells.ghost_name ∷ m ∷ g.width ∷ g.height ∷ []) kept;
-        hidden = λ p a b. cell_at_beyond cells i n v (omega (arith, (on before).place)) a;
+        hidden = λ p a b. ap (λ xs. cell_at xs (n + a)) wrote ∙ cell_at_beyond cells i n v (omega (arith, (on before).place)) a;
         still = λ each k l.
-            sound-set cells i n v lt
+            ap (λ xs. sound (cell_at xs k)) wrote
+            ∙ sound-set cells i n v lt
             (rows-sound g.width g.height n (length cells) c.args.x c.args.y c.args.symbol.now c.args.style c.in_ok-symbol.symbol
             (cell_at cells) v bytes (ok before) made)
             each k l;
       };
       memory =
-          ap (λ d. set cells i d)
+          wrote
+          ∙ ap (λ d. set cells i d)
           (rows_made g.width g.height n (length cells) c.args.x c.args.y c.args.symbol.now c.args.style c.in_ok-symbol.symbol
           (cell_at cells) v bytes (ok before) made)
           ∙ ap (λ k. set cells k (inked (symbol_of c.args.symbol.now) c.args.style (tidy (cell_at cells (c.args.y * g.width + c.args.x))))) at;

@@ -1,5 +1,4 @@
-use Rattle.std.proofs.Common.{◌≡◌, true, cond, map, length, sym, refl, ap, ◌∙◌, subst}
-use Rattle.std.specs.List.{range_with_len}
+use Rattle.std.proofs.Common.{◌≡◌, true, cond, length, sym, refl, ap, ◌∙◌, subst}
 use Rattle.std.proofs.lemmas.Bool.{cond-true}
 use Rattle.page.specs.Cells.{fresh}
 use Rattle.page.specs.Refusals.{memory_answer}
@@ -7,7 +6,7 @@ use Rattle.page.specs.Rows.{fits, rows_page}
 use Rattle.page.proofs.Puts.{fitting, not_refused}
 use Rattle.page.proofs.Rows.{rows-fresh}
 use Rattle.shelf.specs.Bytes.{cell_in}
-use Rattle.shelf.specs.Blocks.{shelf_length, shelf_byte, shelved, Lawful}
+use Rattle.shelf.specs.Blocks.{shelf_length, shelved, Lawful}
 use Rattle.shelf.proofs.Shelved.{length-shelved, cell_in-shelved, lawful_shelved}
 use Rattle.shelf.proofs.Shelf.new.Goals as goal
 
@@ -17,10 +16,10 @@ returns c =
     let h = c.args.height in
     let n = shelf_length w h in
     let m = length c.args.bytes.now in
-    let new = c.fill_fresh.new.bytes in
+    let new = c.freshen.new.bytes in
     let fit : fits w h n m ≡ true =
     not_refused c.check.result (memory_answer w h n m) c.check.ensures.value (sym c.is_err.ensures.value ∙ c.if-is_err.false) in
-    let all : new ≡ shelved w h (λ _. fresh) = c.fill_fresh.ensures.after ∙ ap (λ k. map (shelf_byte w h (λ _. fresh)) (range_with_len 0 k)) (fitting w h n m fit).0 in
+    let all : new ≡ shelved w h (λ _. fresh) = c.freshen.ensures.after in
     let kept : length new ≡ m = ap length all ∙ length-shelved w h (λ _. fresh) ∙ sym (fitting w h n m fit).0 in
     record {
       memory = all ∙ sym (cond-true (fits w h n m) (shelved w h (λ _. fresh)) c.args.bytes.now fit);

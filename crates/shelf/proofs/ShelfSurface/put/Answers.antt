@@ -35,8 +35,8 @@ room c =
 pub cell_from-requires : goal.cell_from-requires
 cell_from-requires c = room (goal.at.cell_from-requires c).After-slot-p
 
-pub write_bytes-requires : goal.write_bytes-requires
-write_bytes-requires c = room (goal.at.write_bytes-requires c).After-slot-p
+pub write_cell-requires : goal.write_cell-requires
+write_cell-requires c = room (goal.at.write_cell-requires c).After-slot-p
 
 pub returns : goal.returns
 returns c =
@@ -47,16 +47,14 @@ returns c =
     let n = shelf_length w h in
     let k = c.args.y * w + c.args.x in
     let v = c.inked-cell.result in
-    let new = c.write_bytes.new.bytes in
+    let new = c.write_cell.new.bytes in
     let before = (goal.at.returns c).After-slot-p in
     let made : v ≡ inked c.in_ok-symbol.symbol c.args.style (tidy (cell_in bs k)) =
     c.inked-cell.ensures.value
     ∙ ap (λ d. inked c.in_ok-symbol.symbol c.args.style d) c.cell_from.ensures.value
     ∙ ap (λ p. inked c.in_ok-symbol.symbol c.args.style (tidy (cell_from bs p))) (at before) in
     let wrote : new ≡ written bs (slot k) (cell_bytes v) =
-    c.write_bytes.ensures.after
-    ∙ ap (λ p. written bs p c.cell_bytes.result) (at before)
-    ∙ ap (λ l. written bs (slot k) l) c.cell_bytes.ensures.value in
+    c.write_cell.ensures.after ∙ ap (λ p. written bs p (cell_bytes v)) (at before) in
     let bytes : (b : ℕ) → get_or c.args.symbol.now b 0 < 256 = λ b. search rules in
     let good = rows-sound w h n (length bs) c.args.x c.args.y c.args.symbol.now c.args.style c.in_ok-symbol.symbol (cell_in bs) v bytes (ok before) made in
     let whole = rows_made w h n (length bs) c.args.x c.args.y c.args.symbol.now c.args.style c.in_ok-symbol.symbol (cell_in bs) v bytes (ok before) made in

@@ -4,4 +4,4 @@ use Rattle.stack.proofs.stack.Stack.pop.Goals as goal
 
 pub returns : goal.returns
 returns g c =
-    record { value = c.top-top.ensures.value; held = laid_pop c.args.self.now.slots.now c.args.self.now.depth c.top-place-self.result (omega arith) c.top-place-self.ensures.value; room = search rules }
+    record { value = c.top-top.ensures.value; held = laid_pop c.args.self.now.slots.now c.args.self.now.depth c.top_place-self.result (omega arith) c.top_place-self.ensures.value; room = search rules }
