@@ -130,7 +130,9 @@ def main():
                 table.pop(old)
     for path in antt + code:
         text = read(path)
-        new = turn(text, table, fields)
+        # the code's own functions keep their names
+        mine = {o: n for o, n in table.items() if path.endswith(".antt") or o not in OTHERS}
+        new = turn(text, mine, fields)
         if new != text:
             with open(path, "w", encoding="utf8") as f:
                 f.write(new)

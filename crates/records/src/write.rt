@@ -201,7 +201,7 @@ impl<'a> Records<'a> {
         self.table.entries = 0;
     }
 
-    pub fn end_row_lem(&mut self)
+    pub fn end_row(&mut self)
         ensures after { memory_of self.new ≡ act (memory_of self.old) end_row }
     {
         let at = self.used.rows;

@@ -2,7 +2,7 @@ use Rattle.std.proofs.Common.{◌≡◌, ◌-◌, [], length, take, drop, sym, a
 use Rattle.checks.specs.Measures.{every, filled, lines_of}
 use Rattle.checks.proofs.Lines.{the_next_line_begins, a_line_is_refused, a_line_goes_on, the_last_line_ends}
 use Rattle.checks.proofs.measure.admits_lines.Goals as goal
-use Rattle.checks.proofs.measure.admits_lines.Goals.{then-text-i-eq-LINE-FEED+else-not-admits-part, else-text-i-eq-LINE-FEED}
+use Rattle.checks.proofs.measure.admits_lines.Goals.{then-text-i-eq-LINE_FEED+else-not-admits_part, else-text-i-eq-LINE_FEED}
 
 pub loop-i-preserved : goal.loop-i-preserved
 loop-i-preserved g c =
@@ -12,8 +12,8 @@ loop-i-preserved g c =
     let a = (g.R.Ruler.meaning c.args.ruler.now).admits in
     let w0 = every a (filled (lines_of [] s)) in
     elim c.if-text-i-eq-LINE_FEED.branch [
-      | then-text-i-eq-LINE-FEED+else-not-admits-part w ↦ (omega (arith, w.from-is), the_next_line_begins a (take (i - f) (drop f s)) s i c.if-text-i-eq-LINE_FEED.from w.admits_part.result w0 c.loop-i-test.true w.if-text-i-eq-LINE_FEED.true w.admits_part.ensures.value w.if-not-admits_part.false w.from-is c.loop-i.invariant.1)
-      | else-text-i-eq-LINE-FEED w ↦ (omega (arith, w.from-is), a_line_goes_on a s f c.if-text-i-eq-LINE_FEED.from i w0 c.loop-i.invariant.0 c.loop-i-test.true w.if-text-i-eq-LINE_FEED.false w.from-is c.loop-i.invariant.1)
+      | then-text-i-eq-LINE_FEED+else-not-admits_part w ↦ (omega (arith, w.from-is), the_next_line_begins a (take (i - f) (drop f s)) s i c.if-text-i-eq-LINE_FEED.from w.admits_part.result w0 c.loop-i-test.true w.if-text-i-eq-LINE_FEED.true w.admits_part.ensures.value w.if-not-admits_part.false w.from-is c.loop-i.invariant.1)
+      | else-text-i-eq-LINE_FEED w ↦ (omega (arith, w.from-is), a_line_goes_on a s f c.if-text-i-eq-LINE_FEED.from i w0 c.loop-i.invariant.0 c.loop-i-test.true w.if-text-i-eq-LINE_FEED.false w.from-is c.loop-i.invariant.1)
     ]
 
 pub returns-then-not-admits_part : goal.returns-then-not-admits_part
