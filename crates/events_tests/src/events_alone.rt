@@ -1,6 +1,5 @@
 use super::made::*;
 use events::{Cursor, kind_of};
-use std::test::Fail;
 
 #[test]
 fn twenty_seven_numbers_mean_a_kind(rt: HostRuntime) {
@@ -51,26 +50,28 @@ fn a_table_has_at_most_thirty_two_columns(rt: HostRuntime) {
 }
 
 #[test]
-fn the_cursor_names_the_event_where_it_stopped(rt: HostRuntime) -> Result<(), Fail> {
+fn the_cursor_names_the_event_where_it_stopped(rt: HostRuntime) {
     let events = [event(OTHER), event(TEXT)];
     let mut cursor = Cursor::new(&events, SAMPLE);
     assert_eq!(rt; cursor.at(), 0);
-    check(cursor.next().is_some())?;
+    assert!(rt; cursor.next().is_some());
     assert_eq!(rt; cursor.at(), 0);
-    check(cursor.next().is_some())?;
+    assert!(rt; cursor.next().is_some());
     assert_eq!(rt; cursor.at(), 1);
-    check(cursor.next().is_none())?;
+    assert!(rt; cursor.next().is_none());
     assert_eq!(rt; cursor.at(), 2);
-    check(cursor.next().is_none())?;
+    assert!(rt; cursor.next().is_none());
     assert_eq!(rt; cursor.at(), 2);
-    Ok(())
 }
 
 #[test]
 fn an_event_that_reaches_past_the_text_names_no_bytes(rt: HostRuntime) {
     let cursor = Cursor::new(&[], SAMPLE);
-    assert_eq!(rt; cursor.bytes(naming(TEXT, 3, 2)), b"cd");
-    assert_eq!(rt; cursor.bytes(naming(TEXT, 3, 3)), b"");
-    assert_eq!(rt; cursor.bytes(naming(TEXT, 5, 0)), b"");
-    assert_eq!(rt; cursor.bytes(naming(TEXT, u32::MAX, u32::MAX)), b"");
+    assert_eq!(rt; cursor.bytes(naming(TEXT, 3, 2)), b"cd".as_slice());
+    assert_eq!(rt; cursor.bytes(naming(TEXT, 3, 3)), b"".as_slice());
+    assert_eq!(rt; cursor.bytes(naming(TEXT, 5, 0)), b"".as_slice());
+    assert_eq!(rt;
+        cursor.bytes(naming(TEXT, u32::MAX, u32::MAX)),
+        b"".as_slice()
+    );
 }
