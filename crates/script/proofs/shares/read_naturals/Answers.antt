@@ -8,5 +8,5 @@ use Rattle.script.proofs.shares.read_naturals.Goals as goal
 pub loop-word-preserved : goal.loop-word-preserved
 loop-word-preserved c =
     c.loop-word.invariant
-    ∙ (naturals_more (vec_items c.loop-word.natural) c.in-ok-n.n c.in-Some.word.now (words_left c.loop-word.words) (words_left c.next-word.new.self) c.in-Some.ensures (sym c.in-ok-n.ensures.value)
-    ∙ ap (λ (xs : List ℕ). and_then (naturals_in (words_left c.next-word.new.self)) (λ ns. Ok (xs ++ ns))) (sym c.in-ok-push.ensures.items))
+    ∙ (naturals_more (vec_items c.loop-word.natural) c.in_ok-n.n c.in-Some.word.now (words_left c.loop-word.words) (words_left c.next_word.new.self) c.in-Some.ensures (sym c.in_ok-n.ensures.value)
+    ∙ ap (λ (xs : List ℕ). and_then (naturals_in (words_left c.next_word.new.self)) (λ ns. Ok (xs ++ ns))) (sym c.in_ok-push.ensures.items))

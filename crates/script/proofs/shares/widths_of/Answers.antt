@@ -1,4 +1,4 @@
-use Rattle.std.proofs.Common.{◌≡◌, min, length, take, rules}
+use Rattle.std.proofs.Common.{◌≡◌, length, rules}
 use Rattle.script.proofs.Lines.{take_min}
 use Rattle.script.proofs.shares.widths_of.Goals as goal
 
