@@ -1,6 +1,6 @@
 use Rattle.std.proofs.Common.{ℕ, List, Ok, string_bytes, sym, ap, ◌∙◌}
 use Rattle.script.proofs.Lines.{spaced_more, spaced-all}
-use Rattle.script.proofs.shares.numbers_text.Goals as goal
+use Rattle.script.proofs.columns_command.numbers_text.Goals as goal
 
 pub loop-n-preserved : goal.loop-n-preserved
 loop-n-preserved c =

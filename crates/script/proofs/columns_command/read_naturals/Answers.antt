@@ -3,7 +3,7 @@ use Rattle.words.specs.Outcomes.{and_then}
 use Rattle.words.specs.Pieces.{words_left}
 use Rattle.script.specs.Shares.{naturals_in}
 use Rattle.script.proofs.Naturals.{naturals_more}
-use Rattle.script.proofs.shares.read_naturals.Goals as goal
+use Rattle.script.proofs.columns_command.read_naturals.Goals as goal
 
 pub loop-word-preserved : goal.loop-word-preserved
 loop-word-preserved c =
