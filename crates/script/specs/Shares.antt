@@ -7,7 +7,7 @@ use Rattle.columns.specs.declared.Refusal.TheVariants as refusal
 use Rattle.columns.specs.Layout.{answered, laid}
 use Rattle.words.specs.declared.faults.Fault.{Fault}
 use Rattle.words.specs.declared.faults.Fault.TheVariants.{MissingNumber, TooWide, TooManyColumns}
-use Rattle.script.specs.declared.shares.ColumnsCommand.{ColumnsCommand}
+use Rattle.script.specs.declared.columns_command.ColumnsCommand.{ColumnsCommand}
 use Rattle.words.specs.Numbers.{number_in}
 use Rattle.words.specs.Outcomes.{and_then}
 use Rattle.words.specs.Pieces.{leads, past}

@@ -19,9 +19,9 @@ ghost use Rattle.words.specs.Input.{body};
 ghost use Rattle.words.specs.Outcomes.{Gives};
 ghost use Rattle.words.specs.Pieces.{words_left};
 
-mod shares;
+mod columns_command;
 
-pub use shares::{ColumnsCommand, columns_line};
+pub use columns_command::{ColumnsCommand, columns_line};
 use std::alloc::Global;
 use words::{Fault, Words, text_of};
 
@@ -49,7 +49,7 @@ fn read_named(heap: Global, mut words: Words) -> Result<Command, Fault>
         return Err(Fault::UnknownCommand);
     };
     match name {
-        "columns" => Ok(Command::Columns(shares::read_columns(heap, words)?)),
+        "columns" => Ok(Command::Columns(columns_command::read_columns(heap, words)?)),
         _ => Err(Fault::UnknownCommand),
     }
 }
@@ -67,6 +67,6 @@ fn answer(heap: Global, line: &str) -> Result<Option<String>, Fault>
 {
     match read_command(heap, line)? {
         Command::Nothing => Ok(None),
-        Command::Columns(command) => Ok(Some(shares::answer_columns(heap, &command)?)),
+        Command::Columns(command) => Ok(Some(columns_command::answer_columns(heap, &command)?)),
     }
 }

@@ -15,6 +15,17 @@ fn refuses(rt: &impl Abort, heap: Global, raw: &[u8], fault: Fault) -> Result<()
     }
 }
 
+// The same of a line of text, which a failure tells.
+fn refuses_text(rt: &impl Abort, heap: Global, line: &str, fault: Fault) -> Result<(), Fail> {
+    match answer_line(heap, line.as_bytes()) {
+        Ok(_) => Err(Fail::new(format_args!("{line}: the line was read"))),
+        Err(e) => {
+            assert_eq!(rt; e, fault, "{line}");
+            Ok(())
+        },
+    }
+}
+
 fn answers(heap: Global, raw: &[u8]) -> Result<(), Fail> {
     match answer_line(heap, raw)? {
         Some(_) => Ok(()),
@@ -30,7 +41,7 @@ fn refuses_behind(
     fault: Fault,
 ) -> Result<(), Fail> {
     let line = format!(in heap; "{front} {last}")?;
-    refuses(rt, heap, line.as_bytes(), fault).note(line)
+    refuses_text(rt, heap, line.as_str(), fault)
 }
 
 // As many columns as a table can have.
@@ -49,7 +60,7 @@ fn another_first_word_is_an_unknown_command(rt: HostRuntime) -> Result<(), Fail>
         "columns\t40",
         " # no comment",
     ] {
-        refuses(&rt, heap, line.as_bytes(), Fault::UnknownCommand).note(line)?;
+        refuses_text(&rt, heap, line, Fault::UnknownCommand)?;
     }
     Ok(())
 }
@@ -90,7 +101,7 @@ fn spaces_are_single(rt: HostRuntime) -> Result<(), Fail> {
         "columns 40 5 ",
         "columns 40 streaming ",
     ] {
-        refuses(&rt, heap, line.as_bytes(), Fault::NotANumber).note(line)?;
+        refuses_text(&rt, heap, line, Fault::NotANumber)?;
     }
     Ok(())
 }

@@ -23,10 +23,10 @@ fn reads(
     }
 }
 
-fn prints_nothing(heap: Global, raw: &[u8]) -> Result<(), Fail> {
-    match answer_line(heap, raw)? {
+fn prints_nothing(heap: Global, line: &str) -> Result<(), Fail> {
+    match answer_line(heap, line.as_bytes())? {
         None => Ok(()),
-        Some(_) => Err(Fail::new("something is printed")),
+        Some(_) => Err(Fail::new(format_args!("{line}: something is printed"))),
     }
 }
 
@@ -74,7 +74,7 @@ fn empty_lines_and_comments_ask_for_nothing(rt: HostRuntime) -> Result<(), Fail>
         "#columns 40\n",
         "# é\r\n",
     ] {
-        prints_nothing(heap, line.as_bytes()).note(line)?;
+        prints_nothing(heap, line)?;
     }
     Ok(())
 }

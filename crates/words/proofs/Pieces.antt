@@ -1,5 +1,5 @@
 -- Laws of the words of a line.
-use Rattle.std.proofs.Common.{◌≡◌, ℕ, suc, ◌+◌, ◌<◌, Bool, true, false, cond, eqb, List, [], ◌∷◌, ◌++◌, length, get_or, Some, None, Decides, Option, sym, refl, ap, ◌∙◌, subst, arith, Bor, MatchOption}
+use Rattle.std.proofs.Common.{◌≡◌, ℕ, suc, ◌<◌, Bool, cond, eqb, List, [], ◌∷◌, ◌++◌, length, get_or, Some, None, Decides, Option, sym, refl, ap, ◌∙◌, subst, arith, Bor, MatchOption}
 use Rattle.std.specs.Str.{bytes_eq}
 use Rattle.std.proofs.lemmas.Slice.Eq.{bytes_eq-Decides}
 use Rattle.std.proofs.lemmas.Str.Pattern.{IsSplitOnceResult, split_parts}
@@ -32,3 +32,7 @@ pub leads-told : (b : Bool) (word w : List ℕ) (left ws : List (List ℕ)) → 
 leads-told b word w left ws d e =
     let same = same_from_decides b (bytes_eq w word) d (bytes_eq-Decides w word) in
     subst (λ (l : List (List ℕ)). (b ≡ leads word l) × (cond b ws l ≡ past word l)) (sym e) (same, ap (λ (t : Bool). cond t ws (w ∷ ws)) same)
+
+-- The same of a comparison whose answer is the one that is defined.
+pub leads_same : (b : Bool) (word w : List ℕ) (left ws : List (List ℕ)) → b ≡ bytes_eq w word → left ≡ w ∷ ws → (b ≡ leads word left) × (cond b ws left ≡ past word left)
+leads_same b word w left ws d e = leads-told b word w left ws (subst (λ (t : Bool). Decides t (w ≡ word)) (sym d) (bytes_eq-Decides w word)) e

@@ -9,6 +9,6 @@ use Rattle.script.proofs.read_command.Goals as goal
 pub returns : goal.returns
 returns c =
     let line = c.args.line.now in
-    let first = starts_char 35 line false c.if-starts-with.ensures.cases (omega arith) (omega arith) in
-    let same = ap by_name c.new.ensures ∙ sym (asks_by_words line (false-eqb _ 0 c.if-is-empty.ensures) (not_from_Decides false first refl)) in
-    subst (Gives request c.read-named.result) same c.read-named.ensures
+    let first = starts_char 35 line false c.if-starts_with.ensures.cases (omega arith) (omega arith) in
+    let same = ap by_name c.new.ensures ∙ sym (asks_by_words line (false-eqb _ 0 c.if-is_empty.ensures) (not_from_Decides false first refl)) in
+    subst (Gives request c.read_named.result) same c.read_named.ensures

@@ -4,8 +4,8 @@ use Rattle.words.proofs.bytes.push_byte.Goals as goal
 
 pub returns : goal.returns
 returns c =
-    let high = c.in-ok-push.ensures in
-    let low = c.in-ok-push-2.ensures in
+    let high = c.in_ok-push.ensures in
+    let low = c.in_ok-push-2.ensures in
     two_pushed (string_bytes c.args.text.now) (string_bytes c.push.new.self) (string_bytes c.push-2.new.self) _ _ _ _ _ _
-    high.bytes (high.ascii c.hex-digit.ensures.bound) c.hex-digit.ensures.value
-    low.bytes (low.ascii c.hex-digit-2.ensures.bound) c.hex-digit-2.ensures.value
+    high.bytes (high.ascii c.hex_digit.ensures.bound) c.hex_digit.ensures.value
+    low.bytes (low.ascii c.hex_digit-2.ensures.bound) c.hex_digit-2.ensures.value

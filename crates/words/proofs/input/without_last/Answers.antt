@@ -6,5 +6,5 @@ use Rattle.std.proofs.lemmas.Bool.Decides.{Decides-eqb}
 
 pub returns : goal.returns
 returns c =
-    ap (λ (x : Bor (List ℕ)). x.now) c.unwrap-or.ensures
-    ∙ without_stripped c.args.end c.args.bytes c.strip-suffix.result (strip_suffix_is Decides-eqb c.args.bytes.now (c.args.end ∷ []) c.strip-suffix.result c.strip-suffix.ensures.cases)
+    ap (λ (x : Bor (List ℕ)). x.now) c.unwrap_or.ensures
+    ∙ without_stripped c.args.end c.args.bytes c.strip_suffix.result (strip_suffix_is Decides-eqb c.args.bytes.now (c.args.end ∷ []) c.strip_suffix.result c.strip_suffix.ensures.cases)

@@ -5,15 +5,15 @@ use Rattle.words.proofs.numbers.number.Goals as goal
 use Rattle.words.proofs.numbers.number.Goals.{After-parse, In-Ok}
 
 digits : (c : After-parse) → all_ascii_digits c.args.word.now ≡ true
-digits c = ap all_ascii_digits (sym c.as-bytes.ensures.value) ∙ sym c.if-not-all-digits.ensures
+digits c = ap all_ascii_digits (sym c.as_bytes.ensures.value) ∙ sym c.if-not-all_digits.ensures
 
 some : (c : After-parse) → 0 < length c.args.word.now
-some c = omega (arith, false-eqb _ 0 c.if-is-empty.ensures)
+some c = omega (arith, false-eqb _ 0 c.if-is_empty.ensures)
 
-pub returns-in-default : goal.returns-in-default
-returns-in-default c =
-    let a = (goal.at.returns-in-default c).After-parse in
-    let big = parsed_err c.args.word.now c.parse.result c.in-default.field-0 c.parse.ensures.value.0 (digits a) (some a) c.in-default.is in
+pub returns-in_default : goal.returns-in_default
+returns-in_default c =
+    let a = (goal.at.returns-in_default c).After-parse in
+    let big = parsed_err c.args.word.now c.parse.result c.in_default.field-0 c.parse.ensures.value.0 (digits a) (some a) c.in_default.is in
     record { value = sym (number_beyond c.args.most c.args.above c.args.word.now (digits a) (some a) (omega (arith, big, c.ranges.most))); bound = tt }
 
 pub returns-then-n-most : goal.returns-then-n-most

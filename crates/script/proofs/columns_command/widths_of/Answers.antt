@@ -1,6 +1,6 @@
-use Rattle.std.proofs.Common.{◌≡◌, min, length, take, rules}
+use Rattle.std.proofs.Common.{◌≡◌, length, rules}
 use Rattle.script.proofs.Lines.{take_min}
-use Rattle.script.proofs.shares.widths_of.Goals as goal
+use Rattle.script.proofs.columns_command.widths_of.Goals as goal
 
 pub returns : goal.returns
 returns c =
