@@ -1,11 +1,11 @@
-use Rattle.std.proofs.Common.{◌≡◌, ℕ, ◌+◌, ◌*◌, ◌<◌, ◌≤◌, min, Bool, true, false, cond, ltb, List, [], ◌∷◌, length, set, fold, sym, refl, ap, ◌∙◌, arith}
+use Rattle.std.proofs.Common.{◌≡◌, ℕ, ◌+◌, ◌*◌, ◌≤◌, min, Bool, true, false, cond, ltb, List, [], ◌∷◌, length, fold, refl, ap, ◌∙◌, arith}
 use Rattle.std.proofs.lemmas.Bool.Decides.{nat_tests}
 use Rattle.std.proofs.lemmas.List.{length-set}
 use Rattle.records.specs.declared.kinds.Block.{Block}
 use Rattle.records.specs.declared.kinds.Block.TheVariants.{Text, Table}
 use Rattle.records.specs.Acts.{Act, put, end_line, begin_table, end_entry, end_head, end_row, end_table}
-use Rattle.records.specs.Memory.{Memory, act, acted, up, span, blank_row, added, lined, texted, fresh, flushed, closed}
-use Rattle.blocks.specs.Needs.{Needs, needs, tally}
+use Rattle.records.specs.Memory.{Memory, act, acted, up, span, blank_row, added, lined, fresh, flushed, closed}
+use Rattle.blocks.specs.Needs.{Needs, tally}
 
 abbrev pub one : Bool → ℕ
 one true = 1

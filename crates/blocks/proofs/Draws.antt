@@ -1,18 +1,18 @@
 use Rattle.std.proofs.Common.{◌≡◌, ℕ, zero, suc, ◌+◌, ◌-◌, ◌<◌, ◌≤◌, min, Bool, true, false, cond, ltb, List, [], ◌∷◌, ◌++◌, map, length, take, drop, set, replicate, sym, refl, ap, ◌∙◌, inl, inr, arith}
 use Rattle.std.proofs.lemmas.Bool.Decides.{nat_tests, leb_tells}
-use Rattle.std.proofs.lemmas.List.{append_assoc, append-nil, length-append, length_push, length-map, length-drop, length-take, drop-append-le, drop_all, drop_at, take_at, take-append-le, take-map, map_push, map-set, set_past}
+use Rattle.std.proofs.lemmas.List.{append_assoc, append-nil, length_push, length-map, length-drop, length-take, drop-append-le, drop_all, drop_at, take_at, take-append-le, take-map, map_push, map-set, set_past}
 use Rattle.glyphs.specs.declared.Glyph.{Glyph}
 use Rattle.records.specs.declared.kinds.Span.{Span}
 use Rattle.records.specs.declared.kinds.Row.{Row}
 use Rattle.records.specs.declared.kinds.Info.{Info}
 use Rattle.records.specs.declared.kinds.Block.{Block}
 use Rattle.records.specs.declared.kinds.Block.TheVariants.{Text, Table}
-use Rattle.records.specs.Acts.{Act, put, end_line, begin_table, end_entry, end_head, end_row, end_table}
-use Rattle.records.specs.Memory.{span, spanned, blank_row, entered, up}
-use Rattle.blocks.specs.Pieces.{Line, Piece, text, table, trim, texts, settle, settled, padded, resized}
+use Rattle.records.specs.Acts.{put, end_line, begin_table, end_entry, end_head, end_row, end_table}
+use Rattle.records.specs.Memory.{span, spanned, up}
+use Rattle.blocks.specs.Pieces.{Line, text, table, trim, texts, settled, padded, resized}
 use Rattle.blocks.specs.Drafts.{Draft, draft, flush, draw}
 use Rattle.blocks.specs.Reads.{entries_of, piece_of}
-use Rattle.blocks.proofs.Flats.{Grid, grid, Flat, place, flat, flined, fadded, ftexted, ffresh, fflushed, frowed, fbegun, fclosed}
+use Rattle.blocks.proofs.Flats.{Flat, place, flat, flined, fadded, ffresh, fflushed, fbegun, fclosed}
 use Rattle.blocks.proofs.Trims.{is_nil, is_nil-push, trim_end, trim-take, trim_le, settled-append}
 
 -- all 32 entries of a row record

@@ -2,16 +2,15 @@ use Rattle.std.proofs.Common.{◌≡◌, ℕ, zero, suc, ◌+◌, ◌-◌, ◌<�
 use Rattle.std.proofs.lemmas.Bool.Decides.{nat_tests}
 use Rattle.std.proofs.lemmas.List.{take_more_set, append_assoc, append-nil, length-append, length_push, length-set, set-append_right}
 use Rattle.glyphs.specs.declared.Glyph.{Glyph}
-use Rattle.records.specs.declared.kinds.Span.{Span}
 use Rattle.records.specs.declared.kinds.Row.{Row}
 use Rattle.records.specs.declared.kinds.Info.{Info}
 use Rattle.records.specs.declared.kinds.TableAcc.{TableAcc}
 use Rattle.records.specs.declared.kinds.Block.{Block}
 use Rattle.records.specs.declared.kinds.Block.TheVariants.{Text, Table}
-use Rattle.records.specs.Acts.{Act, put, end_line, begin_table, end_entry, end_head, end_row, end_table}
-use Rattle.records.specs.Memory.{Memory, act, up, span, blank_row, entered, added, lined, texted, fresh, flushed, rowed, begun, closed}
+use Rattle.records.specs.Acts.{put, end_entry, end_head, end_row, end_table}
+use Rattle.records.specs.Memory.{Memory, act, up, span, blank_row, entered, added, lined, texted, fresh, begun, closed}
 use Rattle.blocks.specs.Reads.{Fits}
-use Rattle.blocks.proofs.Flats.{Grid, grid, Flat, place, flat, flined, fadded, ftexted, ffresh, fflushed, frowed, fbegun, fclosed}
+use Rattle.blocks.proofs.Flats.{Grid, grid, Flat, place, flat, flined, fadded, ftexted, ffresh, fbegun, fclosed}
 
 -- n places of xs are written, and hold ys
 pub record Part {X : Type 0} (xs : List X) (n : ℕ) (ys : List X) : Type 0 where

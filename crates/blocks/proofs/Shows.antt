@@ -1,4 +1,4 @@
-use Rattle.std.proofs.Common.{◌≡◌, ℕ, ◌+◌, ◌*◌, ◌<◌, ◌≤◌, min, Bool, true, false, cond, ltb, List, [], ◌∷◌, ◌++◌, map, length, take, drop, set, fold, sym, refl, ap, ◌∙◌, arith}
+use Rattle.std.proofs.Common.{◌≡◌, ℕ, ◌+◌, ◌<◌, ◌≤◌, min, Bool, true, false, cond, ltb, List, [], ◌∷◌, ◌++◌, map, length, drop, set, fold, sym, refl, ap, ◌∙◌, arith}
 use Rattle.std.proofs.lemmas.Bool.Decides.{nat_tests}
 use Rattle.std.proofs.lemmas.List.{append_assoc, length-set, take-append-drop}
 use Rattle.glyphs.specs.declared.Glyph.{Glyph}
@@ -12,7 +12,7 @@ use Rattle.records.specs.Memory.{Memory, act, acted, up, span, blank_row, blank,
 use Rattle.blocks.specs.Pieces.{settled}
 use Rattle.blocks.specs.Drafts.{Draft, draw, drawn, clean, flush, finished}
 use Rattle.blocks.specs.Reads.{piece_of, blocks_of, Fits}
-use Rattle.blocks.specs.Needs.{Needs, needs, tally, tallied}
+use Rattle.blocks.specs.Needs.{needs, tally, tallied}
 use Rattle.blocks.specs.Stands.{Within, MemoryShowsDraft}
 use Rattle.blocks.proofs.Flats.{Flat, flat, flined, fflushed, grid}
 use Rattle.blocks.proofs.Kept.{Part, Keeps, keeps_put, keeps_lined, keeps_texted, keeps_fresh, keeps_begun, keeps_entry, keeps_head, keeps_row, keeps_table}

@@ -1,6 +1,5 @@
 -- What the acts make, as lists.
-use Rattle.std.specs.Prelude.{ℕ, Bool, true, false, cond, List, [], ◌∷◌, ◌++◌, map, fold, slice_set}
-use Rattle.glyphs.specs.declared.Glyph.{Glyph}
+use Rattle.std.specs.Prelude.{Bool, true, false, cond, List, [], ◌∷◌, ◌++◌, map, fold, slice_set}
 use Rattle.records.specs.declared.kinds.Info.{Info}
 use Rattle.records.specs.Acts.{Act, put, end_line, begin_table, end_entry, end_head, end_row, end_table}
 use Rattle.blocks.specs.Pieces.{Line, Piece, text, table, resized, settled}

@@ -3,7 +3,7 @@ use Rattle.glyphs.specs.declared.Glyph.{Glyph}
 use Rattle.records.specs.declared.kinds.Span.{Span}
 use Rattle.records.specs.declared.kinds.Row.{Row}
 use Rattle.records.specs.Acts.{Act}
-use Rattle.records.specs.Memory.{Memory, acted, blank, flushed}
+use Rattle.records.specs.Memory.{acted, blank, flushed}
 use Rattle.blocks.specs.Drafts.{drawn, clean, finished}
 use Rattle.blocks.specs.Reads.{blocks_of}
 use Rattle.blocks.specs.Needs.{Needs, tallied}

@@ -1,8 +1,8 @@
 -- What is known of an admitted list of events.
-use Rattle.std.proofs.Common.{◌≡◌, ℕ, ◌+◌, ◌<◌, ◌≤◌, Bool, true, false, cond, ltb, List, [], ◌∷◌, length, get_or, take, Some, None, Ok, Err, fold, Option, Result, sym, refl, ap, ◌∙◌, subst, arith}
+use Rattle.std.proofs.Common.{◌≡◌, ℕ, ◌<◌, ◌≤◌, Bool, true, false, cond, ltb, List, [], ◌∷◌, length, get_or, take, Some, None, Ok, Err, fold, Option, Result, sym, refl, ap, ◌∙◌, subst, arith}
 use Rattle.std.proofs.lemmas.Option.{slice_get-get_or, slice_get_past}
 use Rattle.std.proofs.lemmas.Bool.Decides.{nat_tests}
-use Rattle.stack.specs.Stacks.{topped, popped, pushed, replaced}
+use Rattle.stack.specs.Stacks.{topped, popped, replaced}
 use Rattle.events.specs.Kinds.{kind_of}
 use Rattle.events.specs.Cursors.{bytes_of}
 use Rattle.events.specs.declared.event.Event.{Event}
@@ -15,7 +15,7 @@ use Rattle.checks.specs.declared.marks.Move.{Move}
 use Rattle.checks.specs.declared.marks.Move.TheVariants.{Refuse, Stay, Close, Open, Enter}
 use Rattle.checks.specs.Marks.{place_in, planned, allowed, applied}
 use Rattle.checks.specs.Measures.{every, measured}
-use Rattle.checks.specs.Checks.{in_text, formed, judged_by, judged, marked_by, marked, most_marks, closing, checked, verdict, marks_at, TellsFirst}
+use Rattle.checks.specs.Checks.{in_text, formed, judged_by, marked_by, marked, most_marks, closing, checked, verdict, marks_at, TellsFirst}
 use Rattle.checks.proofs.Firsts.{the_check_tells_the_first_fault}
 
 -- what an event has passed that is not refused

@@ -1,10 +1,10 @@
 -- The check tells the first fault.
-use Rattle.std.proofs.Common.{◌≡◌, ℕ, zero, suc, ◌+◌, ◌<◌, ◌≤◌, Bool, List, [], ◌∷◌, length, take, Ok, Err, fold, Result, sym, refl, ap, ◌∙◌, arith}
+use Rattle.std.proofs.Common.{◌≡◌, ℕ, zero, suc, ◌+◌, ◌<◌, ◌≤◌, Bool, List, [], ◌∷◌, length, take, Ok, Err, fold, Result, refl, ap, ◌∙◌, arith}
 use Rattle.std.specs.List.{slice_get}
 use Rattle.events.specs.declared.event.Event.{Event}
 use Rattle.events.specs.declared.refusal.Refusal.{Refusal}
 use Rattle.checks.specs.declared.marks.Mark.{Mark}
-use Rattle.checks.specs.Checks.{judged, marked, most_marks, closing, and_then, checked_from, checked, verdict, verdict_at, TellsFirst}
+use Rattle.checks.specs.Checks.{judged, marked, most_marks, closing, and_then, checked_from, checked, verdict, TellsFirst}
 
 -- what is said of event k of those from number i on
 abbrev verdict_from : (List ℕ → Bool) → List ℕ → ℕ → List Mark → List Event → ℕ → Result (Unit {0}) Refusal

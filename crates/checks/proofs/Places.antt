@@ -1,6 +1,6 @@
 -- The place that a mark keeps is the one that all open marks say.
 use Rattle.std.proofs.Common.{◌≡◌, ℕ, Bool, true, false, cond, ltb, List, [], ◌∷◌, length, take, Some, None, fold, Option, sym, refl, ◌∙◌, arith}
-use Rattle.stack.specs.Stacks.{topped, popped, pushed, replaced}
+use Rattle.stack.specs.Stacks.{topped, popped, replaced}
 use Rattle.events.specs.Kinds.{kind_of}
 use Rattle.events.specs.declared.event.Event.{Event}
 use Rattle.events.specs.declared.event.Tag.{Tag}

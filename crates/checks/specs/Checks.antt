@@ -5,7 +5,6 @@ use Rattle.stack.specs.Stacks.{topped}
 use Rattle.events.specs.Kinds.{start_of, kind_of}
 use Rattle.events.specs.Cursors.{bytes_of}
 use Rattle.events.specs.declared.event.Event.{Event}
-use Rattle.events.specs.declared.event.Tag.{Tag}
 use Rattle.events.specs.declared.event.Tag.TheVariants as tag
 use Rattle.events.specs.declared.event.Kind.{Kind}
 use Rattle.events.specs.declared.event.Kind.TheVariants.{Text, Code, SoftBreak, HardBreak, Start, End, Other}

@@ -1,5 +1,5 @@
 -- What each event does to the sheet that is being written.
-use Rattle.std.specs.Prelude.{ℕ, Bool, true, false, cond, not, ◌&&◌, ◌||◌, List, [], ◌∷◌, ◌++◌}
+use Rattle.std.specs.Prelude.{ℕ, Bool, cond, not, ◌&&◌, ◌||◌, List, [], ◌∷◌}
 use Rattle.style.specs.declared.Style.{Style}
 use Rattle.glyphs.specs.Rulings.{Ruling}
 use Rattle.glyphs.specs.Glyphs.{space, glyph_of}

@@ -1,12 +1,11 @@
-use Rattle.std.proofs.Common.{◌≡◌, ℕ, zero, suc, ◌+◌, ◌<◌, ◌≤◌, Bool, true, false, cond, List, [], ◌∷◌, ◌++◌, map, length, take, set, replicate, fold, sym, refl, ap, ◌∙◌, subst, arith}
+use Rattle.std.proofs.Common.{◌≡◌, ℕ, zero, suc, ◌+◌, ◌≤◌, Bool, true, false, cond, List, [], ◌∷◌, ◌++◌, map, length, take, set, replicate, fold, refl, ap, ◌∙◌, arith}
 use Rattle.std.specs.List.{AllByRecursion as All}
 use Rattle.std.proofs.lemmas.List.{length_push, length-append, length-map, length-replicate, length-take-le}
-use Rattle.glyphs.specs.declared.Glyph.{Glyph}
 use Rattle.records.specs.declared.kinds.Info.{Info}
 use Rattle.records.specs.Acts.{Act, put, end_line, begin_table, end_entry, end_head, end_row, end_table}
-use Rattle.blocks.specs.Pieces.{Line, Piece, text, table, keep, trim, texts, settle, settled, padded, resized}
-use Rattle.blocks.specs.Drafts.{Draft, draft, flush, draw, drawn}
-use Rattle.blocks.specs.Needs.{Needs, needs, tally}
+use Rattle.blocks.specs.Pieces.{Line, Piece, text, table, keep, trim, texts, settled, resized}
+use Rattle.blocks.specs.Drafts.{Draft, draft, draw, drawn}
+use Rattle.blocks.specs.Needs.{Needs, tally}
 use Rattle.laws.specs.Accounts.{glyphs_in, glyphs_over, weigh, account, Even, Solid}
 
 abbrev pub one : Bool → ℕ

@@ -1,4 +1,4 @@
-use Rattle.std.proofs.Common.{◌≡◌, ℕ, ◌+◌, ◌-◌, ◌<◌, ◌≤◌, max, Bool, true, false, cond, not, ◌&&◌, ◌||◌, eqb, ltb, leb, ◌⊎◌, List, [], ◌∷◌, ◌++◌, length, Some, None, Ok, Err, fold, Option, Result, sym, refl, ap, ◌∙◌, subst, inl, inr, arith}
+use Rattle.std.proofs.Common.{◌≡◌, ℕ, ◌+◌, ◌-◌, ◌<◌, ◌≤◌, max, Bool, true, false, cond, ◌&&◌, ◌||◌, eqb, ltb, leb, ◌⊎◌, List, [], ◌∷◌, ◌++◌, length, Some, None, Ok, Err, fold, Option, Result, sym, refl, ap, ◌∙◌, subst, inl, inr, arith}
 use Rattle.std.specs.List.{AllByRecursion as All}
 use Rattle.std.proofs.lemmas.Bool.Decides.{nat_tests}
 use Rattle.std.proofs.lemmas.Bool.{and_parts}
@@ -19,29 +19,26 @@ use Rattle.events.specs.declared.refusal.Refusal.{Refusal}
 use Rattle.checks.specs.declared.marks.Place.{Place}
 use Rattle.checks.specs.declared.marks.Place.TheVariants as place
 use Rattle.checks.specs.declared.marks.Mark.{Mark}
-use Rattle.checks.specs.declared.marks.Move.TheVariants.{Refuse, Close, Enter}
 use Rattle.checks.specs.Marks.{place_in, is_a, plain, takes_entry, headed, rowed, entered, closed, planned, allowed, applied}
 use Rattle.checks.specs.Marks as marks
-use Rattle.checks.specs.Checks.{formed, marked_by, marked, judged_by, judged, closing, and_then, checked_from, checked}
-use Rattle.records.specs.declared.kinds.Info.{Info}
+use Rattle.checks.specs.Checks.{formed, marked_by, marked, judged_by, judged, and_then, checked_from, checked}
 use Rattle.records.specs.Acts.{Act, put, end_line, begin_table, end_entry, end_head, end_row, end_table}
 use Rattle.blocks.specs.Pieces.{Piece, text, settled}
-use Rattle.blocks.specs.Drafts.{Draft, drawn, clean, flush}
-use Rattle.blocks.specs.Needs.{Needs, needs, tally, tallied}
+use Rattle.blocks.specs.Drafts.{Draft}
+use Rattle.blocks.specs.Needs.{Needs, needs, tally}
 use Rattle.fold.specs.declared.mode.Mode.{Mode}
 use Rattle.fold.specs.declared.mode.Spot.{Spot}
 use Rattle.fold.specs.Parts.{puts, measured, part, spread}
 use Rattle.fold.specs.Tables.{info_of}
 use Rattle.fold.specs.Branches.{bullet, filled, text_acts, start_acts, end_acts, acts}
-use Rattle.fold.specs.Modes.{moved}
-use Rattle.fold.specs.Inks.{in_force, restyled}
-use Rattle.fold.specs.Steps.{or_other, kind_in}
+use Rattle.fold.specs.Inks.{in_force}
+use Rattle.fold.specs.Steps.{or_other}
 use Rattle.glyphs.specs.Glyphs.{sanitized}
-use Rattle.parse.specs.Sketches.{Sketch, spot_in, doings, sketched, unwritten, written, programmed, parsed, needed, none}
-use Rattle.laws.specs.Accounts.{glyphs_in, glyphs_over, account, Even, Solid}
+use Rattle.parse.specs.Sketches.{Sketch, spot_in, doings, sketched, unwritten, written, programmed, none}
+use Rattle.laws.specs.Accounts.{glyphs_in, glyphs_over, Even, Solid}
 use Rattle.laws.specs.Stands.{stretches, CountsItsBlocks, RowsAreEven, TextsAreSolid}
 use Rattle.laws.proofs.Books.{Books, books_run, account-push, all_push, even-settled, solid, one}
-use Rattle.laws.proofs.Zones.{Zone, idle, zone, place_of, Sound, core_of, Held, Onward, mark, top_place, open_step, outside_step, enter_step, close_step, tag_is, table_step, head_step, row_step, entry_step, AllCalm, calm_onward, plain_step, end_table_lem, end_head_lem, end_row_lem, end_entry_lem}
+use Rattle.laws.proofs.Zones.{idle, zone, Sound, core_of, Held, Onward, mark, top_place, open_step, outside_step, enter_step, close_step, tag_is, table_step, head_step, row_step, entry_step, AllCalm, calm_onward, plain_step, end_table_lem, end_head_lem, end_row_lem, end_entry_lem}
 
 calm_puts : (gs : List Glyph) → AllCalm (puts gs)
 calm_puts [] = tt

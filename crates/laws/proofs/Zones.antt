@@ -1,23 +1,21 @@
-use Rattle.std.proofs.Common.{◌≡◌, ℕ, ◌+◌, ◌-◌, ◌<◌, ◌≤◌, max, Bool, true, false, cond, ◌&&◌, ◌||◌, eqb, ltb, leb, ◌⊎◌, List, [], ◌∷◌, ◌++◌, length, set, Some, None, Option, sym, refl, ap, ◌∙◌, subst, inl, inr, arith}
+use Rattle.std.proofs.Common.{◌≡◌, ℕ, ◌+◌, ◌-◌, ◌<◌, ◌≤◌, Bool, true, false, cond, eqb, ltb, ◌⊎◌, List, [], ◌∷◌, length, set, Some, sym, refl, ap, ◌∙◌, subst, inl, inr, arith}
 use Rattle.std.specs.List.{AllByRecursion as All}
 use Rattle.std.proofs.lemmas.Bool.Decides.{nat_tests}
-use Rattle.std.proofs.lemmas.Bool.{and_parts}
 use Rattle.std.proofs.lemmas.List.{length_push}
-use Rattle.stack.specs.Stacks.{topped, pushed, popped, replaced}
+use Rattle.stack.specs.Stacks.{topped, replaced}
 use Rattle.events.specs.Kinds.{start_of, tag_of}
 use Rattle.events.specs.declared.event.Tag.{Tag}
 use Rattle.events.specs.declared.event.Tag.TheVariants as tag
 use Rattle.checks.specs.declared.marks.Place.{Place}
 use Rattle.checks.specs.declared.marks.Place.TheVariants as place
 use Rattle.checks.specs.declared.marks.Mark.{Mark}
-use Rattle.checks.specs.declared.marks.Move.{Move}
-use Rattle.checks.specs.declared.marks.Move.TheVariants.{Refuse, Stay, Close, Open, Enter}
+use Rattle.checks.specs.declared.marks.Move.TheVariants.{Refuse, Close, Open, Enter}
 use Rattle.checks.specs.Marks.{place_in, is_a, outside, allowed, applied}
 use Rattle.records.specs.declared.kinds.Info.{Info}
 use Rattle.records.specs.Acts.{Act, put, end_line, begin_table, end_entry, end_head, end_row, end_table}
 use Rattle.blocks.specs.Pieces.{Line}
-use Rattle.blocks.specs.Drafts.{Draft, draft, draw, drawn}
-use Rattle.laws.proofs.Books.{Safe, SafeRun, all_push}
+use Rattle.blocks.specs.Drafts.{Draft, draw, drawn}
+use Rattle.laws.proofs.Books.{SafeRun, all_push}
 
 -- where in a table the open marks are: a grid's columns and whether it is fresh, a row's columns and how many entries it still takes
 pub data Zone : Type 0 where

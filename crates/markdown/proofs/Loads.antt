@@ -1,4 +1,4 @@
-use Rattle.std.proofs.Common.{◌≡◌, ℕ, ◌<◌, ◌≤◌, min, Bool, true, false, cond, eqb, leb, List, [], ◌∷◌, length, Ok, Err, Result, sym, refl, ap, ◌∙◌, arith}
+use Rattle.std.proofs.Common.{◌≡◌, ℕ, ◌<◌, ◌≤◌, min, Bool, true, false, cond, eqb, leb, List, [], ◌∷◌, length, Ok, Err, Result, refl, ap, ◌∙◌, arith}
 use Rattle.std.proofs.lemmas.Bool.Decides.{nat_tests}
 use Rattle.glyphs.specs.declared.Glyph.{Glyph}
 use Rattle.glyphs.specs.Rulings.{Ruling}
@@ -12,12 +12,12 @@ use Rattle.checks.specs.Checks.{and_then, checked}
 use Rattle.records.specs.declared.kinds.Span.{Span}
 use Rattle.records.specs.declared.kinds.Row.{Row}
 use Rattle.records.specs.declared.kinds.Used.{Used}
-use Rattle.records.specs.Memory.{Memory, blank}
+use Rattle.records.specs.Memory.{Memory}
 use Rattle.blocks.specs.Needs.{Needs, needs}
 use Rattle.blocks.specs.Reads.{blocks_of}
 use Rattle.blocks.specs.Stands.{Within}
 use Rattle.parse.specs.Sketches.{parsed, needed}
-use Rattle.parse.specs.Stands.{filled, Counted}
+use Rattle.parse.specs.Stands.{filled}
 use Rattle.parse.proofs.Programs.{fold_shows, fold_counts}
 use Rattle.markdown.specs.Answers.{limited_by, limited, answered}
 use Rattle.markdown.specs.Sheets.{count_of, in_use, refilled}

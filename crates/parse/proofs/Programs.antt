@@ -1,4 +1,4 @@
-use Rattle.std.proofs.Common.{◌≡◌, ℕ, ◌+◌, min, Bool, true, false, cond, not, ltb, List, [], ◌∷◌, ◌++◌, map, length, fold, sym, refl, ap, ◌∙◌, arith}
+use Rattle.std.proofs.Common.{◌≡◌, ℕ, Bool, true, false, cond, not, ltb, List, [], ◌∷◌, ◌++◌, map, length, fold, sym, refl, ap, ◌∙◌, arith}
 use Rattle.glyphs.specs.declared.Glyph.{Glyph}
 use Rattle.glyphs.specs.Rulings.{Ruling}
 use Rattle.events.specs.declared.event.Event.{Event}
@@ -9,12 +9,11 @@ use Rattle.records.specs.declared.kinds.Row.{Row}
 use Rattle.records.specs.declared.kinds.Block.{Block}
 use Rattle.records.specs.declared.kinds.Block.TheVariants.{Text, Table}
 use Rattle.records.specs.Acts.{Act, put, end_line, begin_table, end_entry, end_head, end_row, end_table}
-use Rattle.records.specs.Memory.{Memory, act, acted, span, added, lined, fresh, flushed, begun, closed, blank}
-use Rattle.blocks.specs.Drafts.{Draft, draft, flush, draw, drawn, clean, finished}
+use Rattle.records.specs.Memory.{Memory, act, acted, span, added, lined, fresh, flushed, closed, blank}
+use Rattle.blocks.specs.Drafts.{Draft, draft, flush, draw, drawn, finished}
 use Rattle.blocks.specs.Pieces.{table, resized}
 use Rattle.blocks.specs.Reads.{blocks_of}
-use Rattle.blocks.specs.Needs.{Needs, needs, tally, tallied}
-use Rattle.blocks.specs.Stands.{Within}
+use Rattle.blocks.specs.Needs.{needs, tally}
 use Rattle.blocks.proofs.Shows.{memory_shows, counted}
 use Rattle.blocks.proofs.Counts.{counts_flushed}
 use Rattle.fold.specs.declared.mode.Spot.{Spot}
@@ -22,10 +21,10 @@ use Rattle.fold.specs.Tables.{info_of}
 use Rattle.fold.specs.Branches.{acts}
 use Rattle.fold.specs.Modes.{moved}
 use Rattle.fold.specs.Inks.{in_force, restyled}
-use Rattle.fold.specs.Steps.{kind_in, spot, spot_of, State, state_of, stepped, ran}
+use Rattle.fold.specs.Steps.{kind_in, spot, spot_of, state_of, stepped}
 use Rattle.fold.proofs.Walks.{acted-append}
-use Rattle.parse.specs.Sketches.{Sketch, none, spot_in, doings, sketched, unwritten, written, programmed, needed}
-use Rattle.parse.specs.Stands.{filled, FoldShows, Counted, FoldCounts}
+use Rattle.parse.specs.Sketches.{Sketch, none, spot_in, doings, sketched, unwritten, programmed}
+use Rattle.parse.specs.Stands.{filled, FoldShows, FoldCounts}
 
 -- what the records and the lists say of where the next event acts
 pub record Flags (m : Memory) (d : Draft) : Type 0 where

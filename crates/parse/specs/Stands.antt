@@ -1,4 +1,4 @@
-use Rattle.std.specs.Prelude.{◌≡◌, ℕ, ◌≤◌, min, List, length}
+use Rattle.std.specs.Prelude.{◌≡◌, ℕ, min, List, length}
 use Rattle.glyphs.specs.declared.Glyph.{Glyph}
 use Rattle.glyphs.specs.Rulings.{Ruling}
 use Rattle.events.specs.declared.event.Event.{Event}

@@ -1,5 +1,5 @@
 -- What a stack holds, as a list with its top first.
-use Rattle.std.specs.Prelude.{ℕ, Bool, cond, List, [], ◌∷◌, reverse, length, take, Some, None, Option, nat_lt}
+use Rattle.std.specs.Prelude.{ℕ, cond, List, [], ◌∷◌, reverse, length, take, Some, None, Option, nat_lt}
 use Rattle.stack.specs.declared.stack.Stack.{Stack}
 
 -- The things in so many slots, the last first.

@@ -1,4 +1,4 @@
-use Rattle.std.proofs.Common.{◌≡◌, ℕ, List, IsUtf8, sym, ap, ◌∙◌, subst}
+use Rattle.std.proofs.Common.{ℕ, List, IsUtf8, sym, ap, ◌∙◌, subst}
 use Rattle.std.specs.Str.{chars}
 use Rattle.blank.specs.Blanks.{all_white}
 use Rattle.clusters.proofs.Spelling.{text_decides}

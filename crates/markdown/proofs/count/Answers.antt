@@ -1,5 +1,4 @@
-use Rattle.std.proofs.Common.{◌≡◌, ap, ◌∙◌}
-use Rattle.records.specs.declared.kinds.Used.{Used}
+use Rattle.std.proofs.Common.{ap, ◌∙◌}
 use Rattle.records.specs.Memory.{Memory, flushed}
 use Rattle.fold.specs.Steps.{ran}
 use Rattle.markdown.proofs.count.Goals as goal

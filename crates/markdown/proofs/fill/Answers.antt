@@ -1,5 +1,5 @@
-use Rattle.std.proofs.Common.{◌≡◌, sym, ap, ◌∙◌}
-use Rattle.records.specs.Memory.{Memory, flushed}
+use Rattle.std.proofs.Common.{sym, ap, ◌∙◌}
+use Rattle.records.specs.Memory.{flushed}
 use Rattle.fold.specs.Steps.{ran}
 use Rattle.markdown.proofs.Loads.{refilled_some}
 use Rattle.markdown.proofs.fill.Goals as goal

@@ -1,4 +1,4 @@
-use Rattle.std.proofs.Common.{◌≡◌, sym, ap, ◌∙◌}
+use Rattle.std.proofs.Common.{sym, ◌∙◌}
 use Rattle.events.specs.Styles.{in_order, styles_checked}
 use Rattle.checks.specs.Checks.{and_then, checked}
 use Rattle.parse.specs.Sketches.{needed}

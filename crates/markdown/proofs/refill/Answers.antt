@@ -1,4 +1,4 @@
-use Rattle.std.proofs.Common.{◌≡◌, ℕ, length, sym, ap, ◌∙◌, arith}
+use Rattle.std.proofs.Common.{◌≡◌, ℕ, sym, ap, ◌∙◌, arith}
 use Rattle.records.specs.Views.{memory_of}
 use Rattle.blocks.specs.Reads.{blocks_of}
 use Rattle.markdown.specs.Sheets.{count_of}

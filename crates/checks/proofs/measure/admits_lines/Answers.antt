@@ -1,4 +1,4 @@
-use Rattle.std.proofs.Common.{◌≡◌, ◌-◌, [], length, take, drop, sym, ap, ◌∙◌, arith}
+use Rattle.std.proofs.Common.{◌-◌, [], take, drop, sym, ◌∙◌, arith}
 use Rattle.checks.specs.Measures.{every, filled, lines_of}
 use Rattle.checks.proofs.Lines.{the_next_line_begins, a_line_is_refused, a_line_goes_on, the_last_line_ends}
 use Rattle.checks.proofs.measure.admits_lines.Goals as goal

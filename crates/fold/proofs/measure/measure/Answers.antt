@@ -1,4 +1,4 @@
-use Rattle.std.proofs.Common.{◌≡◌, ◌∙◌, arith}
+use Rattle.std.proofs.Common.{◌∙◌, arith}
 use Rattle.records.specs.Views.{memory_of}
 use Rattle.fold.proofs.Walks.{walk_step, walk_end}
 use Rattle.fold.proofs.measure.measure.Goals as goal

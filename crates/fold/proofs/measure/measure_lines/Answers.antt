@@ -1,4 +1,4 @@
-use Rattle.std.proofs.Common.{◌≡◌, ◌-◌, length, take, drop, sym, ap, ◌∙◌, arith, rules}
+use Rattle.std.proofs.Common.{◌-◌, take, drop, ap, ◌∙◌, arith}
 use Rattle.records.specs.Views.{memory_of}
 use Rattle.fold.specs.Parts.{part}
 use Rattle.fold.proofs.Walks.{feed_step, byte_step, spread_end}

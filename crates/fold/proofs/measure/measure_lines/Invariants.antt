@@ -1,4 +1,4 @@
-use Rattle.std.proofs.Common.{◌≡◌, ◌-◌, ◌≤◌, [], length, take, drop}
+use Rattle.std.proofs.Common.{◌≡◌, ◌-◌, ◌≤◌, [], take, drop}
 use Rattle.records.specs.Memory.{acted}
 use Rattle.records.specs.Views.{memory_of}
 use Rattle.fold.specs.Parts.{part, spread}

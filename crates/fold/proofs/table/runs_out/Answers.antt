@@ -1,4 +1,4 @@
-use Rattle.std.proofs.Common.{◌≡◌, ap, ◌∙◌}
+use Rattle.std.proofs.Common.{ap, ◌∙◌}
 use Rattle.blank.specs.Blanks.{is_blank}
 use Rattle.fold.proofs.Walks.{drop_min}
 use Rattle.fold.proofs.table.runs_out.Goals as goal
