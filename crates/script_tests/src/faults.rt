@@ -5,25 +5,29 @@ use std::process::Abort;
 use std::test::Fail;
 use words::Fault;
 
-fn refuses(rt: &impl Abort, heap: Global, raw: &[u8], fault: Fault) -> Result<(), Fail> {
+// A line that cannot be read for this fault. A failure tells the line by its name.
+fn refuses_named(
+    rt: &impl Abort,
+    heap: Global,
+    name: &str,
+    raw: &[u8],
+    fault: Fault,
+) -> Result<(), Fail> {
     match answer_line(heap, raw) {
-        Ok(_) => Err(Fail::new("the line was read")),
+        Ok(_) => Err(Fail::new(format_args!("{name}: it was read"))),
         Err(e) => {
-            assert_eq!(rt; e, fault);
+            assert_eq!(rt; e, fault, "{name}");
             Ok(())
         },
     }
 }
 
-// The same of a line of text, which a failure tells.
+fn refuses(rt: &impl Abort, heap: Global, raw: &[u8], fault: Fault) -> Result<(), Fail> {
+    refuses_named(rt, heap, "the line", raw, fault)
+}
+
 fn refuses_text(rt: &impl Abort, heap: Global, line: &str, fault: Fault) -> Result<(), Fail> {
-    match answer_line(heap, line.as_bytes()) {
-        Ok(_) => Err(Fail::new(format_args!("{line}: the line was read"))),
-        Err(e) => {
-            assert_eq!(rt; e, fault, "{line}");
-            Ok(())
-        },
-    }
+    refuses_named(rt, heap, line, line.as_bytes(), fault)
 }
 
 fn answers(heap: Global, raw: &[u8]) -> Result<(), Fail> {
