@@ -192,10 +192,10 @@ pub fn apply(marks: &mut Stack<Mark>, step: Move) -> bool
             let _ = marks.pop();
             true
         }
-        Move::Open(mark) => marks.push(mark),
+        Move::Open(mark) => marks.push(mark).is_ok(),
         Move::Enter(outer, inner) => {
             marks.replace(outer);
-            marks.push(inner)
+            marks.push(inner).is_ok()
         }
     }
 }
