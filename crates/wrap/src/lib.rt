@@ -55,6 +55,7 @@ pub struct WordRule;
 impl BreakingRule for WordRule {
     ghost meaning = { λ _. record { breaks = word_break; ordered = word_ordered; onward = word_onward; narrow = word_narrow; spaces = word_spaces; fewer = word_fewer } };
 
+    #[tactic(auto, using(wrap_laws::proofs::WordLaws::word_breaks_at))]
     fn break_row(&self, line: &[Glyph], width: u16, start: usize) -> (usize, usize) {
         let misfit = first_misfit(line, width, start);
         if misfit >= line.len() {
