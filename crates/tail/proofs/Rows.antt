@@ -1,9 +1,10 @@
 -- Delimiter rows: an entry with a backslash is none of hyphens.
 use Rattle.std.proofs.Common.{◌≡◌, ℕ, ◌<◌, Bool, true, false, not, ◌&&◌, ◌||◌, eqb, List, [], ◌∷◌, ◌++◌, length, sym, refl, ap, ◌∙◌, ⊎_elim, true≢false, append_assoc, arith}
 use Rattle.std.specs.Char.{is_whitespace}
-use Rattle.std.proofs.lemmas.Bool.{cond_both, eq-eqb, ne_eqb, eqb-true, and_left, and_right, and_parts, or_from, or_left, or_right, cases_Bool}
+use Rattle.std.proofs.lemmas.Bool.{cond_both, eq-eqb, ne_eqb, eqb-true, and_left, and_right, and_parts, or_from, cases_Bool}
 use Rattle.tail.specs.Texts.{all, any, is, before, past, trimmed, ends_with, front, without_first, without_last}
 use Rattle.tail.specs.Lines.{onto, parts}
+use Rattle.tail.proofs.Spelling.{any_some}
 use Rattle.tail.proofs.Pieces.{length-onto, pieces_bounds}
 use Rattle.tail.specs.Entries.{delimits, all_delimit, pieces}
 
@@ -58,13 +59,9 @@ abbrev behind : List ℕ → List (List ℕ) → List (List ℕ)
 behind xs [] = []
 behind xs (e ∷ es) = (xs ++ e) ∷ es
 
-has_behind : (xs e : List ℕ) (c : ℕ) → c ≡ 92 → has (xs ++ (c ∷ e)) ≡ true
-has_behind [] e c q = or_left (eqb c 92) (has e) (eq-eqb c 92 q)
-has_behind (x ∷ xs) e c q = or_right (eqb x 92) (has (xs ++ (c ∷ e))) (has_behind xs e c q)
-
 spoilt : (xs : List ℕ) (c : ℕ) (ls : List (List ℕ)) → c ≡ 92 → 0 < length ls → all_delimit (behind xs (onto c ls)) ≡ false
 spoilt xs c [] q h = absurd (omega arith)
-spoilt xs c (e ∷ es) q h = and_left (delimits (xs ++ (c ∷ e))) (all_delimit es) (no_entry (xs ++ (c ∷ e)) (has_behind xs e c q))
+spoilt xs c (e ∷ es) q h = and_left (delimits (xs ++ (c ∷ e))) (all_delimit es) (no_entry (xs ++ (c ∷ e)) (any_some (is 92) xs e c (eq-eqb c 92 q)))
 
 behind-onto : (xs : List ℕ) (c : ℕ) (ls : List (List ℕ)) → behind xs (onto c ls) ≡ behind (xs ++ (c ∷ [])) ls
 behind-onto xs c [] = refl

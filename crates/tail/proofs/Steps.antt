@@ -2,7 +2,7 @@
 use Rattle.std.proofs.Common.{◌≡◌, ℕ, ◌≤◌, Bool, true, false, cond, not, ◌&&◌, eqb, leb, List, [], ◌∷◌, sym, Option, Some, None, refl, ap, ◌∙◌, true≢false, arith}
 use Rattle.std.specs.Char.{is_whitespace}
 use Rattle.std.specs.List.{prefix_len}
-use Rattle.std.proofs.lemmas.Bool.{cond-false, eq-eqb, ne_eqb, eqb-true, lt-leb, leb-true, leb-false, and_left, and_right, and_parts, or_from, cond_both}
+use Rattle.std.proofs.lemmas.Bool.{eq-eqb, ne_eqb, eqb-true, lt-leb, leb-true, leb-false, and_right, and_parts, or_from, cond_both}
 use Rattle.std.proofs.Math.Bool.{and-true}
 use Rattle.tail.specs.Texts.{all, any, is, past, starts_with}
 use Rattle.tail.specs.Fences.{sign, may_follow, opens, closes, fence, fence_below}
@@ -42,10 +42,10 @@ blank_may_follow Tilde cs e = refl
 
 -- no marks: nothing opens or closes
 not_opened : (m : Mark) (t : List ℕ) → starts_with (sign m) t ≡ false → opens_at m t ≡ false
-not_opened m t e = and_left (leb 3 (count m t)) (may_follow m (rest m t)) (ap (leb 3) (leading_none (sign m) t e))
+not_opened m t e = rw (leading_none (sign m) t e) refl
 
 not_closed : (m : Mark) (n : ℕ) (t : List ℕ) → 3 ≤ n → starts_with (sign m) t ≡ false → closes_at m n t ≡ false
-not_closed m n t h e = and_left (leb n (count m t)) (all is_whitespace (rest m t)) (lt-leb n (count m t) (omega (arith, leading_none (sign m) t e)))
+not_closed m n t h e = rw (lt-leb n (count m t) (omega (arith, leading_none (sign m) t e))) refl
 
 module _ (m : Mark) (k : ℕ) where
   absent_by : (x y z : Bool) → (y ≡ true → z ≡ true) → stepped None (cond x (cond y (Bare (fence m k)) (cond z (Info (fence m k)) Other)) Other) ≡ cond (x && z) (Some (fence m k)) None
@@ -55,14 +55,11 @@ module _ (m : Mark) (k : ℕ) where
   absent_by true false false h = refl
   absent_by false y z h = refl
 
-  same_self : (w : Mark) → eqb (sign w) (sign w) ≡ true
-  same_self w = eq-eqb (sign w) (sign w) refl
-
   open_by : (n : ℕ) (x y z : Bool) → (x ≡ false → leb n k ≡ false) → stepped (Some (fence m n)) (cond x (cond y (Bare (fence m k)) (cond z (Info (fence m k)) Other)) Other) ≡ cond (leb n k && y) None (Some (fence m n))
-  open_by n true true z h = ap (λ b. cond (b && leb n k) None (Some (fence m n))) (same_self m) ∙ sym (ap (λ b. cond b None (Some (fence m n))) (and-true (leb n k)))
-  open_by n true false true h = sym (cond-false (leb n k && false) None (Some (fence m n)) (and_right (leb n k) false refl))
-  open_by n true false false h = sym (cond-false (leb n k && false) None (Some (fence m n)) (and_right (leb n k) false refl))
-  open_by n false y z h = sym (cond-false (leb n k && y) None (Some (fence m n)) (and_left (leb n k) y (h refl)))
+  open_by n true true z h = rw (eq-eqb (sign m) (sign m) refl, and-true (leb n k)) refl
+  open_by n true false true h = rw (and_right (leb n k) false refl) refl
+  open_by n true false false h = rw (and_right (leb n k) false refl) refl
+  open_by n false y z h = rw (h refl) refl
 
 mark_absent : (m : Mark) (t : List ℕ) → stepped None (mark_class m t) ≡ cond (opens_at m t) (Some (fence m (count m t))) None
 mark_absent m t = absent_by m (count m t) (leb 3 (count m t)) (all is_whitespace (rest m t)) (may_follow m (rest m t)) (blank_may_follow m (rest m t))
@@ -71,7 +68,7 @@ mark_open : (m : Mark) (n : ℕ) (t : List ℕ) → 3 ≤ n → stepped (Some (f
 mark_open m n t h = open_by m (count m t) n (leb 3 (count m t)) (all is_whitespace (rest m t)) (may_follow m (rest m t)) (λ f. lt-leb n (count m t) (omega (arith, leb-false 3 (count m t) f)))
 
 other_open : (k m : Mark) (n : ℕ) (x y z : Bool) (j : ℕ) → eqb (sign k) (sign m) ≡ false → stepped (Some (fence m n)) (cond x (cond y (Bare (fence k j)) (cond z (Info (fence k j)) Other)) Other) ≡ Some (fence m n)
-other_open k m n true true z j e = ap (λ b. cond (b && leb n j) None (Some (fence m n))) e
+other_open k m n true true z j e = rw e refl
 other_open k m n true false true j e = refl
 other_open k m n true false false j e = refl
 other_open k m n false y z j e = refl
