@@ -16,10 +16,10 @@ fn lead(b: u8) -> u32
     ensures bound { result < 128 }
 {
     match b {
-        0..0x80 => b as u32,
-        0x80..0xE0 => b.saturating_sub(0xC0) as u32,
-        0xE0..0xF0 => b as u32 - 0xE0,
-        0xF0.. => b as u32 - 0xF0,
+        0..0x80 => u32::from(b),
+        0x80..0xE0 => u32::from(b.saturating_sub(0xC0)),
+        0xE0..0xF0 => u32::from(b) - 0xE0,
+        0xF0.. => u32::from(b) - 0xF0,
     }
 }
 
@@ -29,7 +29,7 @@ fn more(code: u32, b: u8) -> u32
     ensures value { result ≡ code * 64 + (b - 128) }
     ensures bound { result < code * 64 + 128 }
 {
-    code * 64 + b.saturating_sub(0x80) as u32
+    code * 64 + u32::from(b.saturating_sub(0x80))
 }
 
 // The first code point, and the bytes behind it, if its bytes are all there.

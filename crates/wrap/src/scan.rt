@@ -12,7 +12,7 @@ use glyphs::Glyph;
 fn columns_of(glyph: &Glyph, width: u16) -> u16
     ensures value { result ≡ counted width glyph.now }
 {
-    (glyph.width as u16).min(width)
+    u16::from(glyph.width).min(width)
 }
 
 // Whether a glyph fits in what is left of the row.
