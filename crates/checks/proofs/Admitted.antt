@@ -12,7 +12,7 @@ use Rattle.events.specs.declared.refusal.Refusal.{Refusal}
 use Rattle.events.specs.declared.refusal.Refusal.TheVariants as refused
 use Rattle.checks.specs.declared.marks.Mark.{Mark}
 use Rattle.checks.specs.declared.marks.Move.{Move}
-use Rattle.checks.specs.declared.marks.Move.TheVariants.{Refuse, Stay, Close, Open, Enter}
+use Rattle.checks.specs.declared.marks.Move.TheVariants.{Stay, Close, Open, Enter}
 use Rattle.checks.specs.Marks.{place_in, planned, allowed, applied}
 use Rattle.checks.specs.Measures.{every, measured}
 use Rattle.checks.specs.Checks.{in_text, formed, judged_by, marked_by, marked, most_marks, closing, checked, verdict, marks_at, TellsFirst}
@@ -81,12 +81,12 @@ popped-fits : (room : ℕ) (ms : List Mark) → length ms ≤ room → length (p
 popped-fits room [] h = h
 popped-fits room (m ∷ ms) h = omega arith
 
-applied-fits : (room : ℕ) (ms : List Mark) (x : Move) → length ms ≤ room → length (applied room ms x) ≤ room
-applied-fits room ms Refuse h = h
-applied-fits room ms Stay h = h
-applied-fits room ms Close h = popped-fits room ms h
-applied-fits room ms (Open m) h = pushed-fits room ms m (ltb (length ms) room) refl h
-applied-fits room ms (Enter n m) h = pushed-fits room (replaced ms n) m (ltb (length (replaced ms n)) room) refl (omega (arith, length-replaced ms n))
+applied-fits : (room : ℕ) (ms : List Mark) (x : Option Move) → length ms ≤ room → length (applied room ms x) ≤ room
+applied-fits room ms None h = h
+applied-fits room ms (Some Stay) h = h
+applied-fits room ms (Some Close) h = popped-fits room ms h
+applied-fits room ms (Some (Open m)) h = pushed-fits room ms m (ltb (length ms) room) refl h
+applied-fits room ms (Some (Enter n m)) h = pushed-fits room (replaced ms n) m (ltb (length (replaced ms n)) room) refl (omega (arith, length-replaced ms n))
 
 marked-fits : (ms : List Mark) (columns : ℕ) (k : Option Kind) → length ms ≤ most_marks → length (marked_by most_marks ms columns k) ≤ most_marks
 marked-fits ms columns None h = h

@@ -1,5 +1,5 @@
 -- The check tells the first fault.
-use Rattle.std.proofs.Common.{◌≡◌, ℕ, zero, suc, ◌+◌, ◌<◌, ◌≤◌, Bool, List, [], ◌∷◌, length, take, Ok, Err, fold, Result, refl, ap, ◌∙◌, arith}
+use Rattle.std.proofs.Common.{◌≡◌, ℕ, zero, suc, ◌+◌, ◌<◌, ◌≤◌, Bool, List, [], ◌∷◌, length, take, Ok, Err, fold, Result, sym, refl, ap, ◌∙◌, subst, arith}
 use Rattle.std.specs.List.{slice_get}
 use Rattle.events.specs.declared.event.Event.{Event}
 use Rattle.events.specs.declared.refusal.Refusal.{Refusal}
@@ -53,3 +53,6 @@ from_the_first a t es (Err x) h =
 
 pub the_check_tells_the_first_fault : (a : List ℕ → Bool) (t : List ℕ) (es : List Event) → TellsFirst a t es (checked a t es)
 the_check_tells_the_first_fault a t es = from_the_first a t es (checked a t es) (tells_from a t es 0 [])
+
+pub the_answer_tells_the_first_fault : (a : List ℕ → Bool) (t : List ℕ) (es : List Event) (r : Result (Unit {0}) Refusal) → r ≡ checked a t es → TellsFirst a t es r
+the_answer_tells_the_first_fault a t es r h = subst (TellsFirst a t es) (sym h) (the_check_tells_the_first_fault a t es)

@@ -1,47 +1,45 @@
--- A walk over a text, from line feed to line feed.
-use Rattle.std.proofs.Common.{◌≡◌, ℕ, ◌+◌, ◌-◌, ◌<◌, ◌≤◌, Bool, true, false, ◌&&◌, ◌||◌, eqb, List, [], ◌∷◌, ◌++◌, length, get_or, take, drop, sym, refl, ap, ◌∙◌, arith, length-drop}
+-- The lines of a text are its parts between line feeds.
+use Rattle.std.proofs.Common.{◌≡◌, ℕ, Bool, true, false, cond, ◌&&◌, ◌||◌, eqb, List, [], ◌∷◌, ◌++◌, length, sym, refl, ap, ◌∙◌, arith}
+use Rattle.std.specs.List.{slice_split, onto_first, list_all}
 use Rattle.std.proofs.lemmas.Bool.Decides.{nat_tests}
-use Rattle.std.proofs.lemmas.Bool.{cond-false}
-use Rattle.std.proofs.lemmas.List.{drop_more, drop_all, take_more, get_or-drop}
+use Rattle.std.proofs.lemmas.List.{append-nil, append_assoc}
 use Rattle.checks.specs.Measures.{every, empty_or, filled, lines_of}
 
--- the first of some lines, and then the others
-pub every_line : (a : List ℕ → Bool) (so : List ℕ) (ls : List (List ℕ)) → every a (filled (so ∷ ls)) ≡ (empty_or a so && every a (filled ls))
-every_line a [] ls = refl
-every_line a (b ∷ so) ls =
-    let z : eqb (length (b ∷ so)) 0 ≡ false = grind (arith, nat_tests) in
-    ap (λ t. (t || a (b ∷ so)) && every a (filled ls)) (sym z)
+abbrev pub parts : List ℕ → List (List ℕ)
+parts s = slice_split (λ b. eqb b 10) s
 
--- one byte more of a part
-pub part_more : (s : List ℕ) (f i : ℕ) → f ≤ i → i < length s → take (i + 1 - f) (drop f s) ≡ take (i - f) (drop f s) ++ (get_or s i 0 ∷ [])
-part_more s f i le h =
-    let n : i - f < length (drop f s) = simp length-drop (omega arith) in
-    let e : i + 1 - f ≡ (i - f) + 1 = omega arith in
-    let k : f + (i - f) ≡ i = omega arith in
-    ap (λ n. take n (drop f s)) e ∙ (take_more (drop f s) (i - f) 0 n ∙ ap (λ v. take (i - f) (drop f s) ++ (v ∷ [])) (get_or-drop f s (i - f) 0 ∙ ap (λ n. get_or s n 0) k))
+-- the parts with what stands before the first
+abbrev onto : List ℕ → List (List ℕ) → List (List ℕ)
+onto so [] = so ∷ []
+onto so (l ∷ ls) = (so ++ l) ∷ ls
 
-pub a_line_ends : (a : List ℕ → Bool) (so s : List ℕ) (i : ℕ) → i < length s → get_or s i 0 ≡ 10 → every a (filled (lines_of so (drop i s))) ≡ (empty_or a so && every a (filled (lines_of [] (drop (i + 1) s))))
-a_line_ends a so s i h e =
-    ap (λ l. every a (filled (lines_of so l))) (drop_more s i 0 h ∙ ap (λ v. v ∷ drop (i + 1) s) e) ∙ every_line a so (lines_of [] (drop (i + 1) s))
+onto_one : (so : List ℕ) (b : ℕ) (ls : List (List ℕ)) → onto (so ++ (b ∷ [])) ls ≡ onto so (onto_first b ls)
+onto_one so b [] = refl
+onto_one so b (l ∷ ls) = ap (λ p. p ∷ ls) (append_assoc so (b ∷ []) l)
 
-pub the_next_line_begins : (a : List ℕ → Bool) (so s : List ℕ) (i k : ℕ) (r w : Bool) → i < length s → get_or s i 0 ≡ 10 → r ≡ empty_or a so → r ≡ true → k ≡ i + 1 → every a (filled (lines_of so (drop i s))) ≡ w → every a (filled (lines_of (take (i + 1 - k) (drop k s)) (drop (i + 1) s))) ≡ w
-the_next_line_begins a so s i k r w h e p ok q inv =
-    let z : i + 1 - k ≡ 0 = omega arith in
-    ap (λ j. every a (filled (lines_of (take j (drop k s)) (drop (i + 1) s)))) z ∙ sym (a_line_ends a so s i h e ∙ ap (λ t. t && every a (filled (lines_of [] (drop (i + 1) s)))) (sym p ∙ ok)) ∙ inv
+onto_nothing_by : (t : Bool) (b : ℕ) (ls : List (List ℕ)) → onto [] (cond t ([] ∷ ls) (onto_first b ls)) ≡ cond t ([] ∷ ls) (onto_first b ls)
+onto_nothing_by true b ls = refl
+onto_nothing_by false b [] = refl
+onto_nothing_by false b (l ∷ ls) = refl
 
-pub a_line_is_refused : (a : List ℕ → Bool) (so s : List ℕ) (i : ℕ) (r : Bool) → i < length s → get_or s i 0 ≡ 10 → r ≡ empty_or a so → r ≡ false → every a (filled (lines_of so (drop i s))) ≡ false
-a_line_is_refused a so s i r h e p bad = a_line_ends a so s i h e ∙ ap (λ t. t && every a (filled (lines_of [] (drop (i + 1) s)))) (sym p ∙ bad)
+onto_nothing : (s : List ℕ) → onto [] (parts s) ≡ parts s
+onto_nothing [] = refl
+onto_nothing (b ∷ bs) = onto_nothing_by (eqb b 10) b (parts bs)
 
-pub a_line_goes_on : (a : List ℕ → Bool) (s : List ℕ) (f k i : ℕ) (w : Bool) → f ≤ i → i < length s → (get_or s i 0 ≡ 10 → ⊥) → k ≡ f → every a (filled (lines_of (take (i - f) (drop f s)) (drop i s))) ≡ w → every a (filled (lines_of (take (i + 1 - k) (drop k s)) (drop (i + 1) s))) ≡ w
-a_line_goes_on a s f k i w le h ne q inv =
-    let z : eqb (get_or s i 0) 10 ≡ false = grind (arith, nat_tests) in
-    rw q (ap (λ so. every a (filled (lines_of so (drop (i + 1) s)))) (part_more s f i le h) ∙ sym (ap (λ l. every a (filled (lines_of (take (i - f) (drop f s)) l))) (drop_more s i 0 h) ∙ ap (λ l. every a (filled l)) (cond-false (eqb (get_or s i 0) 10) _ _ z)) ∙ inv)
+cut : (t : Bool) (so : List ℕ) (b : ℕ) (ls new on : List (List ℕ)) → new ≡ ls → on ≡ onto (so ++ (b ∷ [])) ls → cond t (so ∷ new) on ≡ onto so (cond t ([] ∷ ls) (onto_first b ls))
+cut true so b ls new on h g = ap (λ l. so ∷ l) h ∙ ap (λ l. l ∷ ls) (sym (append-nil so))
+cut false so b ls new on h g = g ∙ onto_one so b ls
 
-and_true : (b : Bool) → b ≡ (b && true)
-and_true true = refl
-and_true false = refl
+lines_by_parts : (s so : List ℕ) → lines_of so s ≡ onto so (parts s)
+lines_by_parts [] so = ap (λ l. l ∷ []) (sym (append-nil so))
+lines_by_parts (b ∷ bs) so = cut (eqb b 10) so b (parts bs) (lines_of [] bs) (lines_of (so ++ (b ∷ [])) bs) (lines_by_parts bs [] ∙ onto_nothing bs) (lines_by_parts bs (so ++ (b ∷ [])))
 
-pub the_last_line_ends : (a : List ℕ → Bool) (s : List ℕ) (f i : ℕ) → i ≡ length s → empty_or a (take (length s - f) (drop f s)) ≡ every a (filled (lines_of (take (i - f) (drop f s)) (drop i s)))
-the_last_line_ends a s f i e =
-    let so = take (length s - f) (drop f s) in
-    rw e (and_true (empty_or a so) ∙ (sym (every_line a so []) ∙ ap (λ l. every a (filled (lines_of so l))) (sym (drop_all (length s) s (omega arith)))))
+every_filled : (a : List ℕ → Bool) (ls : List (List ℕ)) → list_all (empty_or a) ls ≡ every a (filled ls)
+every_filled a [] = refl
+every_filled a ([] ∷ ls) = every_filled a ls
+every_filled a ((b ∷ l) ∷ ls) =
+    let z : eqb (length (b ∷ l)) 0 ≡ false = grind (arith, nat_tests) in
+    ap (λ t. (t || a (b ∷ l)) && list_all (empty_or a) ls) z ∙ ap (λ t. a (b ∷ l) && t) (every_filled a ls)
+
+pub every_part_is_a_line : (a : List ℕ → Bool) (s : List ℕ) → list_all (empty_or a) (parts s) ≡ every a (filled (lines_of [] s))
+every_part_is_a_line a s = every_filled a (parts s) ∙ ap (λ ls. every a (filled ls)) (sym (lines_by_parts s [] ∙ onto_nothing s))

@@ -11,7 +11,7 @@ use Rattle.checks.specs.declared.marks.Place.{Place}
 use Rattle.checks.specs.declared.marks.Place.TheVariants as place
 use Rattle.checks.specs.declared.marks.Mark.{Mark}
 use Rattle.checks.specs.declared.marks.Move.{Move}
-use Rattle.checks.specs.declared.marks.Move.TheVariants.{Refuse, Stay, Close, Open, Enter}
+use Rattle.checks.specs.declared.marks.Move.TheVariants.{Stay, Close, Open, Enter}
 use Rattle.checks.specs.Marks.{place_in, place_by, holds, is_a, plain, table, with_row, with_entry, headed, rowed, takes_entry, entered, outside, opened, closed, planned, applied}
 use Rattle.checks.specs.Checks.{marked_by, marked, most_marks, marks_at, PlacesStand}
 
@@ -24,14 +24,14 @@ placed_top [] h = refl
 placed_top (m ∷ ms) h = h.0
 
 -- what a move needs to keep the places
-abbrev Fits : List Mark → Move → Type 0
-Fits ms Refuse = Unit {0}
-Fits ms Stay = Unit {0}
-Fits ms Close = Unit {0}
-Fits ms (Open m) = m.place ≡ place_by (m ∷ ms)
-Fits ms (Enter n m) = Placed (m ∷ replaced ms n)
+abbrev Fits : List Mark → Option Move → Type 0
+Fits ms None = Unit {0}
+Fits ms (Some Stay) = Unit {0}
+Fits ms (Some Close) = Unit {0}
+Fits ms (Some (Open m)) = m.place ≡ place_by (m ∷ ms)
+Fits ms (Some (Enter n m)) = Placed (m ∷ replaced ms n)
 
-fits_if : (ms : List Mark) (b : Bool) (x : Move) → Fits ms x → Fits ms (cond b x Refuse)
+fits_if : (ms : List Mark) (b : Bool) (x : Move) → Fits ms (Some x) → Fits ms (cond b (Some x) None)
 fits_if ms true x h = h
 fits_if ms false x h = tt
 
@@ -90,12 +90,12 @@ placed_popped : (ms : List Mark) → Placed ms → Placed (popped ms)
 placed_popped [] h = tt
 placed_popped (m ∷ ms) h = h.1
 
-placed_applied : (room : ℕ) (ms : List Mark) (x : Move) → Fits ms x → Placed ms → Placed (applied room ms x)
-placed_applied room ms Refuse f h = h
-placed_applied room ms Stay f h = h
-placed_applied room ms Close f h = placed_popped ms h
-placed_applied room ms (Open m) f h = placed_if (ltb (length ms) room) m ms (f, h)
-placed_applied room ms (Enter n m) f h = placed_if (ltb (length (replaced ms n)) room) m (replaced ms n) f
+placed_applied : (room : ℕ) (ms : List Mark) (x : Option Move) → Fits ms x → Placed ms → Placed (applied room ms x)
+placed_applied room ms None f h = h
+placed_applied room ms (Some Stay) f h = h
+placed_applied room ms (Some Close) f h = placed_popped ms h
+placed_applied room ms (Some (Open m)) f h = placed_if (ltb (length ms) room) m ms (f, h)
+placed_applied room ms (Some (Enter n m)) f h = placed_if (ltb (length (replaced ms n)) room) m (replaced ms n) f
 
 placed_marked : (ms : List Mark) (columns : ℕ) (k : Option Kind) → Placed ms → Placed (marked_by most_marks ms columns k)
 placed_marked ms columns None h = h

@@ -10,7 +10,7 @@ use Rattle.checks.specs.declared.marks.Place.{Place}
 use Rattle.checks.specs.declared.marks.Place.TheVariants as place
 use Rattle.checks.specs.declared.marks.Mark.{Mark}
 use Rattle.checks.specs.declared.marks.Move.{Move}
-use Rattle.checks.specs.declared.marks.Move.TheVariants.{Refuse, Stay, Close, Open, Enter}
+use Rattle.checks.specs.declared.marks.Move.TheVariants.{Stay, Close, Open, Enter}
 
 -- Where an event stands whose innermost open mark is this, if one is open.
 abbrev pub place_in : Option Mark → Place
@@ -42,33 +42,33 @@ with_entry m =
     (plain place.Entry tag.TableCell)
 
 -- A head stands directly in a table that holds neither head nor row yet.
-abbrev pub headed : Option Mark → Move
-headed None = Refuse
-headed (Some m) = cond (is_a tag.Table m && m.fresh) (with_row tag.TableHead m) Refuse
+abbrev pub headed : Option Mark → Option Move
+headed None = None
+headed (Some m) = cond (is_a tag.Table m && m.fresh) (Some (with_row tag.TableHead m)) None
 
 -- A row stands directly in a table.
-abbrev pub rowed : Option Mark → Move
-rowed None = Refuse
-rowed (Some m) = cond (is_a tag.Table m) (with_row tag.TableRow m) Refuse
+abbrev pub rowed : Option Mark → Option Move
+rowed None = None
+rowed (Some m) = cond (is_a tag.Table m) (Some (with_row tag.TableRow m)) None
 
 -- An entry stands directly in a head or a row that takes one more.
 abbrev pub takes_entry : Mark → Bool
 takes_entry m = (is_a tag.TableHead m || is_a tag.TableRow m) && nat_lt 0 m.entries
 
-abbrev pub entered : Option Mark → Move
-entered None = Refuse
-entered (Some m) = cond (takes_entry m) (with_entry m) Refuse
+abbrev pub entered : Option Mark → Option Move
+entered None = None
+entered (Some m) = cond (takes_entry m) (Some (with_entry m)) None
 
 -- A mark that no table holds at any depth.
-abbrev pub outside : Place → Mark → Move
-outside place.Prose m = Open m
-outside place.Table m = Refuse
-outside place.Entry m = Refuse
+abbrev pub outside : Place → Mark → Option Move
+outside place.Prose m = Some (Open m)
+outside place.Table m = None
+outside place.Entry m = None
 
 -- A start with the innermost open mark and the columns that it tells.
-abbrev pub opened : Option Mark → Tag → ℕ → Move
-opened top tag.Strong columns = Open (plain (place_in top) tag.Strong)
-opened top tag.Emphasis columns = Open (plain (place_in top) tag.Emphasis)
+abbrev pub opened : Option Mark → Tag → ℕ → Option Move
+opened top tag.Strong columns = Some (Open (plain (place_in top) tag.Strong))
+opened top tag.Emphasis columns = Some (Open (plain (place_in top) tag.Emphasis))
 opened top tag.CodeBlock columns = outside (place_in top) (plain place.Prose tag.CodeBlock)
 opened top tag.Paragraph columns = outside (place_in top) (plain place.Prose tag.Paragraph)
 opened top tag.Heading columns = outside (place_in top) (plain place.Prose tag.Heading)
@@ -80,35 +80,35 @@ opened top tag.TableRow columns = rowed top
 opened top tag.TableCell columns = entered top
 
 -- An end closes the innermost open mark, which has to be its own.
-abbrev pub closed : Option Mark → Tag → Move
-closed None t = Refuse
-closed (Some m) t = cond (is_a t m) Close Refuse
+abbrev pub closed : Option Mark → Tag → Option Move
+closed None t = None
+closed (Some m) t = cond (is_a t m) (Some Close) None
 
--- What an event of a kind does to the open marks.
-abbrev pub planned : Option Mark → Kind → ℕ → Move
-planned top Text columns = Stay
-planned top Code columns = Stay
-planned top SoftBreak columns = Stay
-planned top HardBreak columns = Stay
+-- What an event of a kind does to the open marks, if nesting allows it.
+abbrev pub planned : Option Mark → Kind → ℕ → Option Move
+planned top Text columns = Some Stay
+planned top Code columns = Some Stay
+planned top SoftBreak columns = Some Stay
+planned top HardBreak columns = Some Stay
 planned top (Start t) columns = opened top t columns
 planned top (End t) columns = closed top t
-planned top Other columns = Stay
+planned top Other columns = Some Stay
 
--- Whether nesting allows a move with these marks open, in so much room.
-abbrev pub allowed : ℕ → List Mark → Move → Bool
-allowed room ms Refuse = false
-allowed room ms Stay = true
-allowed room ms Close = true
-allowed room ms (Open m) = nat_lt (length ms) room
-allowed room ms (Enter n m) = nat_lt (length (replaced ms n)) room
+-- Whether nesting allows what is planned with these marks open, in so much room.
+abbrev pub allowed : ℕ → List Mark → Option Move → Bool
+allowed room ms None = false
+allowed room ms (Some Stay) = true
+allowed room ms (Some Close) = true
+allowed room ms (Some (Open m)) = nat_lt (length ms) room
+allowed room ms (Some (Enter n m)) = nat_lt (length (replaced ms n)) room
 
--- The marks that are open after a move.
-abbrev pub applied : ℕ → List Mark → Move → List Mark
-applied room ms Refuse = ms
-applied room ms Stay = ms
-applied room ms Close = popped ms
-applied room ms (Open m) = pushed room ms m
-applied room ms (Enter n m) = pushed room (replaced ms n) m
+-- The marks that are open after it.
+abbrev pub applied : ℕ → List Mark → Option Move → List Mark
+applied room ms None = ms
+applied room ms (Some Stay) = ms
+applied room ms (Some Close) = popped ms
+applied room ms (Some (Open m)) = pushed room ms m
+applied room ms (Some (Enter n m)) = pushed room (replaced ms n) m
 
 -- Whether one of the marks is of a tag.
 abbrev pub holds : Tag → List Mark → Bool

@@ -43,16 +43,14 @@ pub fn judge<R: Ruler>(
     ensures room { room marks.new ≡ room marks.old }
 {
     let at = cursor.at() as u64;
-    let Some(kind) = kind_of(event.kind) else {
-        return Err(Refusal::Kind(at));
-    };
+    let kind = kind_of(event.kind).ok_or(Refusal::Kind(at))?;
     if !is_formed(event, kind, cursor.text.len()) {
         return Err(Refusal::Kind(at));
     }
     let top = marks.top();
-    if !apply(marks, plan(top, kind, event.columns)) {
-        return Err(Refusal::Nesting(at));
-    }
+    let misplaced = Refusal::Nesting(at);
+    let step = plan(top, kind, event.columns).ok_or(misplaced)?;
+    apply(marks, step).map_err(|_| misplaced)?;
     if !is_admitted(ruler, place_in(top), kind, cursor.bytes(event)) {
         return Err(Refusal::Ruler(at));
     }

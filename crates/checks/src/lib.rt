@@ -28,6 +28,7 @@ mod measure;
 pub const MAX_MARKS: usize = 64;
 
 // Refuses the first bad event by its number.
+#[tactic(auto, using(crate::proofs::Firsts::the_answer_tells_the_first_fault, crate::proofs::Places::the_marks_tell_the_place))]
 pub fn check<'x, R: Ruler>(ruler: &R, events: &'x [Event], text: &'x [u8]) -> Result<(), Refusal>
     ensures value { result ≡ checked (R.Ruler.meaning ruler.now).admits text.now events.now }
     ensures first { TellsFirst (R.Ruler.meaning ruler.now).admits text.now events.now result }

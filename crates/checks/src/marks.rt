@@ -1,13 +1,13 @@
 // Nesting: starts and ends pair like brackets, and the parts of a table stand in one another.
-ghost use Rattle.std.specs.Prelude.{◌≡◌};
-ghost use Rattle.stack.specs.Stacks.{held, room};
+ghost use Rattle.std.specs.Prelude.{◌≡◌, Some, is_ok};
+ghost use Rattle.stack.specs.Stacks.{held, room, holding};
 ghost use Rattle.checks.specs.Marks.{place_in, is_a, plain, table, with_row, with_entry, headed, rowed, takes_entry, entered, outside, opened, closed, planned, allowed, applied};
 
 use events::event::{Kind, Tag};
-use stack::Stack;
+use stack::{Full, Stack};
 
 // Where text stands: outside tables, in a table but in none of its entries, or in an entry.
-#[derive(Clone, Copy)]
+#[derive(Clone, Copy, PartialEq, Eq, Debug)]
 pub enum Place {
     Prose,
     Table,
@@ -15,7 +15,7 @@ pub enum Place {
 }
 
 // A start whose end has not come.
-#[derive(Clone, Copy)]
+#[derive(Clone, Copy, PartialEq, Eq, Debug)]
 pub struct Mark {
     pub tag: Tag,
     // Where its text stands.
@@ -27,9 +27,8 @@ pub struct Mark {
 }
 
 // What an event does to the open marks.
-#[derive(Clone, Copy)]
+#[derive(Clone, Copy, PartialEq, Eq, Debug)]
 pub enum Move {
-    Refuse,
     Stay,
     // The innermost mark ends.
     Close,
@@ -42,17 +41,14 @@ pub enum Move {
 pub fn place_in(top: Option<Mark>) -> Place
     ensures value { result ≡ place_in top }
 {
-    match top {
-        Some(mark) => mark.place,
-        None => Place::Prose,
-    }
+    top.map_or(Place::Prose, |mark| mark.place)
 }
 
 impl Mark {
     fn is(self, tag: Tag) -> bool
         ensures value { result ≡ is_a tag self }
     {
-        self.tag.start() == tag.start()
+        self.tag == tag
     }
 
     // A mark that holds neither rows nor entries.
@@ -99,98 +95,88 @@ impl Mark {
         };
         Move::Enter(used, Mark::plain(Place::Entry, Tag::TableCell))
     }
-}
 
-fn open_head(top: Option<Mark>) -> Move
-    ensures value { result ≡ headed top }
-{
-    match top {
-        Some(mark) if mark.is(Tag::Table) && mark.fresh => mark.with_row(Tag::TableHead),
-        _ => Move::Refuse,
+    fn takes_entry(self) -> bool
+        ensures value { result ≡ takes_entry self }
+    {
+        (self.is(Tag::TableHead) || self.is(Tag::TableRow)) && self.entries > 0
     }
-}
 
-fn open_row(top: Option<Mark>) -> Move
-    ensures value { result ≡ rowed top }
-{
-    match top {
-        Some(mark) if mark.is(Tag::Table) => mark.with_row(Tag::TableRow),
-        _ => Move::Refuse,
+    // What begins a head in the mark, if it may stand there.
+    fn open_head(self) -> Option<Move>
+        ensures value { result ≡ headed (Some self) }
+    {
+        (self.is(Tag::Table) && self.fresh).then_some(self.with_row(Tag::TableHead))
     }
-}
 
-fn takes_entry(mark: Mark) -> bool
-    ensures value { result ≡ takes_entry mark }
-{
-    (mark.is(Tag::TableHead) || mark.is(Tag::TableRow)) && mark.entries > 0
-}
+    fn open_row(self) -> Option<Move>
+        ensures value { result ≡ rowed (Some self) }
+    {
+        self.is(Tag::Table).then_some(self.with_row(Tag::TableRow))
+    }
 
-fn open_entry(top: Option<Mark>) -> Move
-    ensures value { result ≡ entered top }
-{
-    match top {
-        Some(mark) if takes_entry(mark) => mark.with_entry(),
-        _ => Move::Refuse,
+    fn open_entry(self) -> Option<Move>
+        ensures value { result ≡ entered (Some self) }
+    {
+        self.takes_entry().then_some(self.with_entry())
+    }
+
+    // What ends the mark, if the tag is its own.
+    fn close(self, tag: Tag) -> Option<Move>
+        ensures value { result ≡ closed (Some self) tag }
+    {
+        self.is(tag).then_some(Move::Close)
     }
 }
 
 // Begins a mark that no table holds.
-fn open_outside(top: Option<Mark>, mark: Mark) -> Move
+fn open_outside(top: Option<Mark>, mark: Mark) -> Option<Move>
     ensures value { result ≡ outside (place_in top) mark }
 {
     match place_in(top) {
-        Place::Prose => Move::Open(mark),
-        Place::Table | Place::Entry => Move::Refuse,
+        Place::Prose => Some(Move::Open(mark)),
+        Place::Table | Place::Entry => None,
     }
 }
 
-fn open(top: Option<Mark>, tag: Tag, columns: u8) -> Move
+fn open(top: Option<Mark>, tag: Tag, columns: u8) -> Option<Move>
     ensures value { result ≡ opened top tag columns }
 {
     match tag {
-        Tag::Strong | Tag::Emphasis => Move::Open(Mark::plain(place_in(top), tag)),
+        Tag::Strong | Tag::Emphasis => Some(Move::Open(Mark::plain(place_in(top), tag))),
         Tag::CodeBlock | Tag::Paragraph | Tag::Heading | Tag::Item | Tag::List => {
             open_outside(top, Mark::plain(Place::Prose, tag))
         }
         Tag::Table => open_outside(top, Mark::table(columns)),
-        Tag::TableHead => open_head(top),
-        Tag::TableRow => open_row(top),
-        Tag::TableCell => open_entry(top),
+        Tag::TableHead => top?.open_head(),
+        Tag::TableRow => top?.open_row(),
+        Tag::TableCell => top?.open_entry(),
     }
 }
 
-fn close(top: Option<Mark>, tag: Tag) -> Move
-    ensures value { result ≡ closed top tag }
-{
-    match top {
-        Some(mark) if mark.is(tag) => Move::Close,
-        _ => Move::Refuse,
-    }
-}
-
-// What an event of a kind does, given the innermost open mark.
-pub fn plan(top: Option<Mark>, kind: Kind, columns: u8) -> Move
+// What an event of a kind does, given the innermost open mark, if nesting allows it.
+pub fn plan(top: Option<Mark>, kind: Kind, columns: u8) -> Option<Move>
     ensures value { result ≡ planned top kind columns }
 {
     match kind {
         Kind::Start(tag) => open(top, tag, columns),
-        Kind::End(tag) => close(top, tag),
-        Kind::Text | Kind::Code | Kind::SoftBreak | Kind::HardBreak | Kind::Other => Move::Stay,
+        Kind::End(tag) => top?.close(tag),
+        Kind::Text | Kind::Code | Kind::SoftBreak | Kind::HardBreak | Kind::Other => {
+            Some(Move::Stay)
+        }
     }
 }
 
-// Does it, and tells whether nesting allows it.
-pub fn apply(marks: &mut Stack<Mark>, step: Move) -> bool
-    ensures value { result ≡ allowed (room marks.old) (held marks.old) step }
-    ensures held { held marks.new ≡ applied (room marks.old) (held marks.old) step }
-    ensures room { room marks.new ≡ room marks.old }
+// Does it, if there is room for one more mark.
+pub fn apply(marks: &mut Stack<Mark>, step: Move) -> Result<(), Full>
+    ensures value { is_ok result ≡ allowed (room marks.old) (held marks.old) (Some step) }
+    ensures after { marks.new ≡ holding marks.old (applied (room marks.old) (held marks.old) (Some step)) }
 {
     match step {
-        Move::Refuse => false,
-        Move::Stay => true,
+        Move::Stay => Ok(()),
         Move::Close => {
             let _ = marks.pop();
-            true
+            Ok(())
         }
         Move::Open(mark) => marks.push(mark),
         Move::Enter(outer, inner) => {

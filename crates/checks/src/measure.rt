@@ -6,8 +6,6 @@ use super::marks::Place;
 use events::event::Kind;
 use glyphs::Ruler;
 
-const LINE_FEED: u8 = 10;
-
 fn admits_part<R: Ruler>(ruler: &R, part: &[u8]) -> bool
     ensures value { result ≡ empty_or (R.Ruler.meaning ruler.now).admits part.now }
 {
@@ -17,16 +15,8 @@ fn admits_part<R: Ruler>(ruler: &R, part: &[u8]) -> bool
 fn admits_lines<R: Ruler>(ruler: &R, text: &[u8]) -> bool
     ensures value { result ≡ every (R.Ruler.meaning ruler.now).admits (filled (lines_of [] text.now)) }
 {
-    let mut from: usize = 0;
-    for i in 0..text.len() {
-        if text[i] == LINE_FEED {
-            if !admits_part(ruler, &text[from..i]) {
-                return false;
-            }
-            from = i + 1;
-        }
-    }
-    admits_part(ruler, &text[from..text.len()])
+    text.split(|byte| *byte == b'\n')
+        .all(|line| admits_part(ruler, line))
 }
 
 pub fn is_admitted<R: Ruler>(ruler: &R, place: Place, kind: Kind, bytes: &[u8]) -> bool

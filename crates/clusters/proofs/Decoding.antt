@@ -1,10 +1,8 @@
 -- Decoding one code point from the bytes at the front.
-use Rattle.std.proofs.Common.{◌≡◌, ℕ, zero, suc, ◌+◌, ◌-◌, ◌*◌, ◌<◌, ◌≤◌, List, [], ◌∷◌, length, get_or, drop, Some, None, Option, sym, refl, ap, ◌∙◌, arith, length-drop, MatchOption}
+use Rattle.std.proofs.Common.{◌≡◌, ℕ, zero, suc, ◌+◌, ◌-◌, ◌*◌, ◌<◌, ◌≤◌, List, [], ◌∷◌, length, get_or, drop, refl, ap, ◌∙◌, arith}
 use Rattle.std.specs.Str.{chars}
 use Rattle.std.specs.Str.{chars_after, continuation_len, lead_bits}
-use Rattle.std.proofs.lemmas.List.{drop-drop}
 use Rattle.std.proofs.lemmas.Bool.Decides.{nat_tests}
-use Rattle.clusters.specs.declared.points.Point.{Point}
 
 -- a code point whose bytes have all come
 after_none : (c : ℕ) (s : List ℕ) → chars_after 0 c s ≡ c ∷ chars s
@@ -60,11 +58,3 @@ decodes_four (a ∷ b ∷ d ∷ []) h l = absurd (omega arith)
 decodes_four (a ∷ b ∷ d ∷ f ∷ s) h l =
     let e : continuation_len a ≡ 3 = grind (arith, nat_tests) in
     ap (λ n. chars_after n (lead_bits a) (b ∷ d ∷ f ∷ s)) e ∙ after_none (joined_bits (joined_bits (joined_bits (lead_bits a) b) d) f) s
-
--- what is read at the front of a part is read at its place in the whole
-pub spelled_at : (s t : List ℕ) (at : ℕ) (r : Option Point) → t ≡ drop at s → at < length s →
-    MatchOption r (chars t ≡ []) (λ p. (chars t ≡ p.code ∷ chars (drop p.len t)) × (p.len ≤ length t)) →
-    MatchOption r (chars (drop at s) ≡ []) (λ p. (chars (drop at s) ≡ p.code ∷ chars (drop (at + p.len) s)) × (at + p.len ≤ length s))
-spelled_at s t at None q h e = ap chars (sym q) ∙ e
-spelled_at s t at (Some p) q h e =
-    (ap chars (sym q) ∙ e.0 ∙ ap (λ l. p.code ∷ chars l) (ap (drop p.len) q ∙ drop-drop p.len at s), omega (arith, length-drop at s, ap length q, e.1))

@@ -1,9 +1,11 @@
 -- The width ranges: looking up, and that they are apart.
-use Rattle.std.proofs.Common.{◌≡◌, ℕ, zero, suc, ◌+◌, ◌<◌, Bool, true, false, cond, ◌&&◌, ◌||◌, eqb, ltb, leb, List, [], ◌∷◌, ◌++◌, length, get_or, drop, sym, refl, ap, ◌∙◌, ⊎_elim, arith}
-use Rattle.std.proofs.lemmas.List.{at_drop_more}
+use Rattle.std.proofs.Common.{◌≡◌, ℕ, zero, suc, ◌+◌, ◌<◌, Bool, true, false, cond, ◌&&◌, ◌||◌, eqb, ltb, leb, List, [], ◌∷◌, ◌++◌, length, get_or, sym, refl, ap, ◌∙◌, ⊎_elim, arith, ◌≤◌}
 use Rattle.std.proofs.lemmas.Bool.Decides.{nat_tests}
 use Rattle.std.proofs.lemmas.Bool.{and_parts, leb-true, cond-true, cond-false, cases_Bool, eqb-true}
-use Rattle.clusters.specs.Widths.{inside, zero_width, wide, columns_of, Apart, Range, table, ascends, looked}
+use Rattle.std.specs.List.Sorted.{IsNonDecreasingBy}
+use Rattle.std.specs.Ordering.{ordering_index}
+use Rattle.std.specs.declared.cmp.Ordering.TheVariants.{Less, Equal, Greater}
+use Rattle.clusters.specs.Widths.{standing, inside, zero_width, wide, columns_of, Apart, Range, table, ascends, looked}
 
 -- the ranges of a table that have n columns
 abbrev chosen : ℕ → List Range → List (ℕ × ℕ)
@@ -83,7 +85,7 @@ looked-chosen n c (r ∷ rs) a e =
     (cases_Bool (ltb c r.0))
 
 -- the whole table by one computed test each: it ascends, and its ranges are those of the definition
-pub table-ascends : ascends 0 table ≡ true
+table-ascends : ascends 0 table ≡ true
 table-ascends = refl
 
 table-even : even table ≡ true
@@ -128,10 +130,62 @@ ranges_apart (r ∷ rs) a (suc i) (suc j) c hi hj p q = ap suc (ranges_apart rs 
 pub widths-apart : Apart (zero_width ++ wide)
 widths-apart = ranges_apart (zero_width ++ wide) refl
 
-abbrev pub no_range : Range
-no_range = (0, 0, 0)
+-- each of ascending ranges begins at n or later, and ends no earlier than it begins
+within : (n j : ℕ) (rs : List Range) (d : Range) → ascends n rs ≡ true → j < length rs → (n ≤ (get_or rs j d).0) × ((get_or rs j d).0 ≤ (get_or rs j d).1)
+within n j [] d a h = absurd (omega arith)
+within n zero (r ∷ rs) d a h = grind (arith, nat_tests)
+within n (suc j) (r ∷ rs) d a h =
+    let p = and_parts (leb n r.0) (leb r.0 r.1 && ascends (r.1 + 1) rs) a in
+    let q = and_parts (leb r.0 r.1) (ascends (r.1 + 1) rs) p.1 in
+    let l = leb-true n r.0 p.0 in
+    let m = leb-true r.0 r.1 q.0 in
+    let w = within (r.1 + 1) j rs d q.1 (omega arith) in
+    (omega arith, w.1)
 
--- one step through a table
-pub looked_step : (rs : List Range) (i c : ℕ) → i < length rs →
-    looked (drop i rs) c ≡ cond (ltb c (get_or rs i no_range).0) 1 (cond (leb c (get_or rs i no_range).1) (get_or rs i no_range).2 (looked (drop (i + 1) rs) c))
-looked_step rs i c h = at_drop_more (λ l. looked l c) rs i no_range h
+-- ascending ranges stand to a code point in order
+pub standing_rises : (n c : ℕ) (rs : List Range) → ascends n rs ≡ true → IsNonDecreasingBy (λ r. ordering_index (standing c r)) rs
+standing_rises n c [] a i j d l h = absurd (omega arith)
+standing_rises n c (r ∷ rs) a zero zero d l h = omega arith
+standing_rises n c (r ∷ rs) a (suc i) zero d l h = absurd (omega arith)
+standing_rises n c (r ∷ rs) a zero (suc j) d l h =
+    let q = and_parts (leb r.0 r.1) (ascends (r.1 + 1) rs) (and_parts (leb n r.0) (leb r.0 r.1 && ascends (r.1 + 1) rs) a).1 in
+    let w = within (r.1 + 1) j rs d q.1 (omega arith) in
+    let m = leb-true r.0 r.1 q.0 in
+    grind (arith, nat_tests)
+standing_rises n c (r ∷ rs) a (suc i) (suc j) d l h =
+    let q = and_parts (leb r.0 r.1) (ascends (r.1 + 1) rs) (and_parts (leb n r.0) (leb r.0 r.1 && ascends (r.1 + 1) rs) a).1 in
+    standing_rises (r.1 + 1) c rs q.1 i j d (omega arith) (omega arith)
+
+around : (before past : Bool) → cond before Greater (cond past Equal Less) ≡ Equal → (before ≡ false) × (past ≡ true)
+around true b e = absurd cc
+around false true e = (refl, refl)
+around false false e = absurd cc
+
+-- a code point in one of ascending ranges has its columns
+pub looked_found : (n c i : ℕ) (rs : List Range) (d : Range) → ascends n rs ≡ true → i < length rs → standing c (get_or rs i d) ≡ Equal → looked rs c ≡ (get_or rs i d).2
+looked_found n c i [] d a h e = absurd (omega arith)
+looked_found n c zero (r ∷ rs) d a h e =
+    let p = around (ltb c r.0) (leb c r.1) e in
+    cond-false (ltb c r.0) 1 (cond (leb c r.1) r.2 (looked rs c)) p.0 ∙ cond-true (leb c r.1) r.2 (looked rs c) p.1
+looked_found n c (suc i) (r ∷ rs) d a h e =
+    let q = and_parts (leb r.0 r.1) (ascends (r.1 + 1) rs) (and_parts (leb n r.0) (leb r.0 r.1 && ascends (r.1 + 1) rs) a).1 in
+    let m = leb-true r.0 r.1 q.0 in
+    let w = within (r.1 + 1) i rs d q.1 (omega arith) in
+    let p = around (ltb c (get_or rs i d).0) (leb c (get_or rs i d).1) e in
+    let low : (get_or rs i d).0 ≤ c = let t = p.0 in grind (arith, nat_tests) in
+    let behind : ltb c r.0 ≡ false = grind (arith, nat_tests) in
+    let out : leb c r.1 ≡ false = grind (arith, nat_tests) in
+    cond-false (ltb c r.0) 1 (cond (leb c r.1) r.2 (looked rs c)) behind
+    ∙ cond-false (leb c r.1) r.2 (looked rs c) out
+    ∙ looked_found (r.1 + 1) c i rs d q.1 (omega arith) e
+
+-- a code point in none of some ranges takes one column
+pub looked_missed : (c : ℕ) (rs : List Range) → ((i : ℕ) (d : Range) → i < length rs → standing c (get_or rs i d) ≡ Equal → ⊥) → looked rs c ≡ 1
+looked_missed c [] o = refl
+looked_missed c (r ∷ rs) o =
+    ⊎_elim (λ before. cond-true (ltb c r.0) 1 (cond (leb c r.1) r.2 (looked rs c)) before)
+    (λ behind. cond-false (ltb c r.0) 1 (cond (leb c r.1) r.2 (looked rs c)) behind
+    ∙ ⊎_elim (λ in-it. absurd (o 0 r (omega arith) (cond-false (ltb c r.0) Greater (cond (leb c r.1) Equal Less) behind ∙ cond-true (leb c r.1) Equal Less in-it)))
+    (λ out. cond-false (leb c r.1) r.2 (looked rs c) out ∙ looked_missed c rs (λ i d h e. o (suc i) d (omega arith) e))
+    (cases_Bool (leb c r.1)))
+    (cases_Bool (ltb c r.0))

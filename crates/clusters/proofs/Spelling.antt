@@ -1,5 +1,5 @@
 -- Text as code points: how many bytes the first cluster takes, and that it hides its control bytes.
-use Rattle.std.proofs.Common.{◌≡◌, ℕ, zero, suc, ◌+◌, ◌-◌, ◌<◌, ◌≤◌, min, true, false, cond, ◌&&◌, leb, List, [], ◌∷◌, ◌++◌, length, get_or, take, drop, IsUtf8, Decides, sym, refl, ap, ◌∙◌, subst, ⊎_elim, append_assoc, arith, length-append, take-append-drop}
+use Rattle.std.proofs.Common.{◌≡◌, ℕ, zero, suc, ◌+◌, ◌-◌, ◌<◌, ◌≤◌, min, true, cond, ◌&&◌, leb, List, [], ◌∷◌, ◌++◌, length, get_or, take, drop, IsUtf8, Decides, sym, refl, ap, ◌∙◌, subst, ⊎_elim, append_assoc, arith, length-append, take-append-drop}
 use native.Mathlib.Nat.{min-eq_right}
 use lib.Utf8.{scalar, scalars, encode, encodes}
 use Rattle.std.specs.Char.{len_utf8, is_ascii_control}
@@ -163,13 +163,3 @@ utf8_small s = let n = first_sizes (chars s) in (omega arith, n.2)
 
 pub utf8_hides : (s : List ℕ) → is_text s ≡ true → All HidesControls (cut utf8_first s)
 utf8_hides s t = cut_all utf8_first utf8_onward IsUtf8 HidesControls (λ b s u. (hides_begun (b ∷ s) (text_begins b s u), left-begun (b ∷ s) (text_begins b s u))) 0 s ((text_decides s).0 t)
-
--- the marks, one by one
-pub marks_step : (room c : ℕ) (cs ds : List ℕ) → ds ≡ c ∷ cs → (is_mark c && leb (len_utf8 c) room) ≡ true → mark_bytes room ds ≡ len_utf8 c + mark_bytes (room - len_utf8 c) cs
-marks_step room c cs ds e h = ap (mark_bytes room) e ∙ cond-true (is_mark c && leb (len_utf8 c) room) (len_utf8 c + mark_bytes (room - len_utf8 c) cs) 0 h
-
-pub marks_stop : (room c : ℕ) (cs ds : List ℕ) → ds ≡ c ∷ cs → (is_mark c && leb (len_utf8 c) room) ≡ false → mark_bytes room ds ≡ 0
-marks_stop room c cs ds e h = ap (mark_bytes room) e ∙ cond-false (is_mark c && leb (len_utf8 c) room) (len_utf8 c + mark_bytes (room - len_utf8 c) cs) 0 h
-
-pub mark-fits : (room c : ℕ) → (is_mark c && leb (len_utf8 c) room) ≡ true → len_utf8 c ≤ room
-mark-fits room c h = leb-true (len_utf8 c) room (and_parts (is_mark c) (leb (len_utf8 c) room) h).1

@@ -1,5 +1,7 @@
 -- How many columns a code point takes.
 use Rattle.std.specs.Prelude.{◌≡◌, ℕ, ◌+◌, ◌<◌, Bool, true, false, cond, ◌&&◌, ◌||◌, List, [], ◌∷◌, ◌++◌, length, nat_le, nat_lt, slice_index_or}
+use Rattle.std.specs.declared.cmp.Ordering.{Ordering}
+use Rattle.std.specs.declared.cmp.Ordering.TheVariants.{Less, Equal, Greater}
 
 -- Whether c lies in one of the ranges, each from its first number to its last.
 abbrev pub inside : List (ℕ × ℕ) → ℕ → Bool
@@ -55,6 +57,10 @@ table =
 abbrev pub ascends : ℕ → List Range → Bool
 ascends n [] = true
 ascends n (r ∷ rs) = nat_le n r.0 && (nat_le r.0 r.1 && ascends (r.1 + 1) rs)
+
+-- How a range stands to a code point: before it, behind it, or around it.
+abbrev pub standing : ℕ → Range → Ordering
+standing c r = cond (nat_lt c r.0) Greater (cond (nat_le c r.1) Equal Less)
 
 -- A code point looked up in ascending ranges: 1 where none holds it.
 abbrev pub looked : List Range → ℕ → ℕ

@@ -19,7 +19,7 @@ ghost use Rattle.clusters.specs.Cuts.{byte_columns, byte_first, mark_bytes, poin
 mod points;
 mod widths;
 
-use points::{point_at, size};
+use points::{Points, size};
 use std::str::from_utf8;
 pub use widths::columns;
 use widths::{is_control, is_mark};
@@ -34,25 +34,27 @@ pub struct Cluster {
     pub width: u8,
 }
 
-fn is_valid(bytes: &[u8]) -> bool
+// Whether bytes are UTF-8 text.
+#[tactic(auto, using(crate::proofs::Spelling::text_decides))]
+pub fn is_text(bytes: &[u8]) -> bool
+    ensures value { result ≡ is_text bytes.now }
     ensures cases { MatchBool result (IsUtf8 bytes.now) (IsUtf8 bytes.now → ⊥) }
 {
     from_utf8(bytes).is_ok()
 }
 
-// Whether bytes are UTF-8 text.
-pub fn is_text(bytes: &[u8]) -> bool
-    ensures value { result ≡ is_text bytes.now }
-    ensures cases { MatchBool result (IsUtf8 bytes.now) (IsUtf8 bytes.now → ⊥) }
+// What is left of a text from a place on.
+fn left(text: &[u8], at: usize) -> &[u8]
+    ensures value { result.now ≡ drop at text.now }
 {
-    is_valid(bytes)
+    text.get(at..).unwrap_or(&[])
 }
 
-// The byte at a place, 0 past the last.
-fn byte_at(text: &[u8], at: usize) -> u8
-    ensures value { result ≡ slice_index text.now at }
+// The first byte, 0 where there is none.
+fn first_byte(bytes: &[u8]) -> u8
+    ensures value { result ≡ slice_index bytes.now 0 }
 {
-    if at < text.len() { text[at] } else { 0 }
+    bytes.first().copied().unwrap_or(0)
 }
 
 fn byte_columns(b: u8) -> u8
@@ -70,7 +72,7 @@ pub fn byte_cluster(text: &[u8], at: usize) -> Cluster
 {
     Cluster {
         len: 1,
-        width: byte_columns(byte_at(text, at)),
+        width: byte_columns(first_byte(left(text, at))),
     }
 }
 
@@ -81,50 +83,49 @@ fn is_fitting_mark(code: u32, room: usize) -> bool
     is_mark(code) && size(code) <= room
 }
 
-// How many bytes the marks from a place on take, as far as they fit into the room.
-fn mark_bytes(text: &[u8], from: usize, room: usize) -> usize
-    ensures value { result ≡ mark_bytes room (chars (drop from text.now)) }
+// How many bytes the marks at the front take, as far as they fit into the room.
+fn mark_bytes(points: Points<'_>, room: usize) -> usize
+    ensures value { result ≡ mark_bytes room (chars points.entry.bytes.now) }
     ensures bound { result ≤ room }
 {
-    let mut at = from;
     let mut left = room;
-    while let Some(p) = point_at(text, at) {
-        if !is_fitting_mark(p.code, left) {
+    for code in points {
+        if !is_fitting_mark(code, left) {
             break;
         }
-        at += p.len;
-        left -= size(p.code);
+        left -= size(code);
     }
     room - left
 }
 
 // How many bytes the marks of a code point take: none at a control.
-fn own_marks(text: &[u8], code: u32, from: usize) -> usize
-    ensures value { result ≡ (if is_control code then 0 else mark_bytes (8 - len_utf8 code) (chars (drop from text.now))) }
+fn own_marks(code: u32, behind: Points<'_>) -> usize
+    ensures value { result ≡ (if is_control code then 0 else mark_bytes (8 - len_utf8 code) (chars behind.entry.bytes.now)) }
     ensures bound { result ≤ 8 - len_utf8 code }
 {
     if is_control(code) {
         0
     } else {
-        mark_bytes(text, from, MAX_LEN - size(code))
+        mark_bytes(behind, MAX_LEN - size(code))
     }
 }
 
-// The cluster of a code point whose marks begin at a place.
-fn point_cluster(text: &[u8], code: u32, marks: usize) -> Cluster
-    ensures value { result ≡ point_first (code ∷ chars (drop marks text.now)) }
+// The cluster of a code point with those behind it.
+fn point_cluster(code: u32, behind: Points<'_>) -> Cluster
+    ensures value { result ≡ point_first (code ∷ chars behind.entry.bytes.now) }
 {
     Cluster {
-        len: size(code) + own_marks(text, code, marks),
+        len: size(code) + own_marks(code, behind),
         width: columns(code),
     }
 }
 
-fn spelled_cluster(text: &[u8], at: usize) -> Cluster
-    ensures value { result ≡ point_first (chars (drop at text.now)) }
+fn spelled_cluster(bytes: &[u8]) -> Cluster
+    ensures value { result ≡ point_first (chars bytes.now) }
 {
-    match point_at(text, at) {
-        Some(p) => point_cluster(text, p.code, at + p.len),
+    let mut points = Points { bytes };
+    match points.next() {
+        Some(code) => point_cluster(code, points),
         None => Cluster { len: 1, width: 0 },
     }
 }
@@ -133,10 +134,10 @@ fn spelled_cluster(text: &[u8], at: usize) -> Cluster
 pub fn utf8_cluster(text: &[u8], at: usize) -> Cluster
     ensures value { result ≡ utf8_first (drop at text.now) }
 {
-    let left = text.len().saturating_sub(at);
-    let spelled = spelled_cluster(text, at);
+    let bytes = left(text, at);
+    let spelled = spelled_cluster(bytes);
     Cluster {
-        len: left.min(spelled.len),
+        len: spelled.len.min(bytes.len()),
         ..spelled
     }
 }

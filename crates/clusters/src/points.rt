@@ -1,14 +1,13 @@
-// Reading one code point from the bytes that spell it. Bytes that are no text spell something too: what
+// Code points read from the bytes that spell them. Bytes that are no text spell something too: what
 // `chars` of the standard library says of them.
-ghost use Rattle.std.specs.Prelude.{◌≡◌, ◌+◌, ◌-◌, ◌*◌, ◌^◌, ◌<◌, ◌≤◌, [], ◌∷◌, length, drop, MatchOption};
+ghost use Rattle.std.specs.Prelude.{◌≡◌, ◌+◌, ◌-◌, ◌*◌, ◌^◌, ◌<◌, ◌≤◌, [], ◌∷◌, MatchOption};
 ghost use Rattle.std.specs.Char.{len_utf8};
 ghost use Rattle.std.specs.Str.{chars, lead_bits};
 
-// A code point, and how many bytes spell it.
+// The code points that some bytes spell, one after another.
 #[derive(Clone, Copy)]
-pub struct Point {
-    pub code: u32,
-    pub len: usize,
+pub struct Points<'a> {
+    pub bytes: &'a [u8],
 }
 
 // The bits of a code point that its first byte holds.
@@ -33,27 +32,32 @@ fn more(code: u32, b: u8) -> u32
     code * 64 + b.saturating_sub(0x80) as u32
 }
 
-fn first_point(bytes: &[u8]) -> Option<Point>
-    ensures cases { MatchOption result (chars bytes.now ≡ []) (λ p. (chars bytes.now ≡ p.code ∷ chars (drop p.len bytes.now)) × (p.len ≤ length bytes.now)) }
+// The first code point, and the bytes behind it, if its bytes are all there.
+fn split_first(bytes: &[u8]) -> Option<(u32, &[u8])>
+    ensures cases { MatchOption result (chars bytes.now ≡ []) (λ p. chars bytes.now ≡ p.0 ∷ chars p.1.now) }
 {
-    let (code, len) = match *bytes {
-        [a, ..] if a < 0x80 => (lead(a), 1),
-        [a, b, ..] if a < 0xE0 => (more(lead(a), b), 2),
-        [a, b, c, ..] if a < 0xF0 => (more(more(lead(a), b), c), 3),
-        [a, b, c, d, ..] => (more(more(more(lead(a), b), c), d), 4),
-        _ => return None,
-    };
-    Some(Point { code, len })
+    match *bytes {
+        [a, ref rest @ ..] if a < 0x80 => Some((lead(a), rest)),
+        [a, b, ref rest @ ..] if a < 0xE0 => Some((more(lead(a), b), rest)),
+        [a, b, c, ref rest @ ..] if a < 0xF0 => Some((more(more(lead(a), b), c), rest)),
+        [a, b, c, d, ref rest @ ..] => Some((more(more(more(lead(a), b), c), d), rest)),
+        _ => None,
+    }
 }
 
-// The code point that begins at a place, if its bytes are all there.
-pub fn point_at(text: &[u8], at: usize) -> Option<Point>
-    ensures cases { MatchOption result (chars (drop at text.now) ≡ []) (λ p. (chars (drop at text.now) ≡ p.code ∷ chars (drop (at + p.len) text.now)) × (at + p.len ≤ length text.now)) }
-{
-    if at < text.len() {
-        first_point(&text[at..])
-    } else {
-        None
+impl Iterator for Points<'_> {
+    ghost use Rattle.std.specs.Iterator.{YieldsFirst, item_count};
+
+    type Item = u32;
+
+    ghost next_gives = { YieldsFirst (λ p. chars p.bytes.now) };
+
+    ghost remaining = { item_count (λ p. chars p.bytes.now) };
+
+    fn next(&mut self) -> Option<u32> {
+        let (code, rest) = split_first(self.bytes)?;
+        self.bytes = rest;
+        Some(code)
     }
 }
 

@@ -1,6 +1,8 @@
 // How many columns a code point takes.
 ghost use Rattle.std.specs.Prelude.{◌≡◌, true, ◌++◌};
-ghost use Rattle.clusters.specs.Widths.{is_control, is_mark, zero_width, wide, columns_of, Apart, table, ascends, looked};
+ghost use Rattle.clusters.specs.Widths.{is_control, is_mark, zero_width, wide, columns_of, Apart, table, ascends, looked, standing};
+
+use std::cmp::Ordering;
 
 // The first and the last code point of a range, and how many columns each takes.
 pub type Range = (u32, u32, u8);
@@ -55,24 +57,28 @@ fn ranges() -> &'static [Range]
     &RANGES
 }
 
-fn look_up(ranges: &[Range], code: u32) -> u8
-    ensures value { result ≡ looked ranges.now code }
+// How a range stands to a code point: before it, behind it, or around it.
+fn standing(range: Range, code: u32) -> Ordering
+    ensures value { result ≡ standing code range }
 {
-    for &(low, high, columns) in ranges {
-        if code < low {
-            return 1;
-        }
-        if code <= high {
-            return columns;
-        }
+    let (low, high, _) = range;
+    if code < low {
+        Ordering::Greater
+    } else if code <= high {
+        Ordering::Equal
+    } else {
+        Ordering::Less
     }
-    1
 }
 
-fn table_columns(code: u32) -> u8
-    ensures value { result ≡ looked table code }
+fn look_up(ranges: &[Range], code: u32) -> u8
+    requires { ascends 0 ranges.now ≡ true }
+    ensures value { result ≡ looked ranges.now code }
 {
-    look_up(ranges(), code)
+    match ranges.binary_search_by(|range| standing(*range, code)) {
+        Ok(i) => ranges[i].2,
+        Err(_) => 1,
+    }
 }
 
 // The columns of a code point that begins a cluster. The ranges that decide it ascend and are apart.
@@ -81,5 +87,5 @@ pub fn columns(code: u32) -> u8
     ensures ascends { ascends 0 table ≡ true }
     ensures apart { Apart (zero_width ++ wide) }
 {
-    table_columns(code)
+    look_up(ranges(), code)
 }

@@ -1,14 +1,32 @@
 -- The check of one column after another.
-use Rattle.std.proofs.Common.{◌≡◌, ℕ, zero, suc, ◌+◌, ◌<◌, ◌≤◌, Bool, true, false, cond, ltb, List, [], ◌∷◌, length, get_or, drop, Ok, Err, sym, refl, ap, ◌∙◌, add-one, arith}
-use Rattle.std.proofs.lemmas.List.{at_drop_more}
+use Rattle.std.proofs.Common.{◌≡◌, ℕ, zero, suc, ◌+◌, ◌<◌, ◌≤◌, Bool, true, false, cond, ltb, List, [], ◌∷◌, length, get_or, Some, None, Option, Ok, Err, Result, sym, refl, ap, ◌∙◌, add-one, arith}
+use Rattle.std.specs.List.{position_or_len, position_from}
+use Rattle.std.proofs.lemmas.Iterator.Adapters.{position_from-zero}
 use Rattle.std.proofs.lemmas.Bool.{ltb-false, le-ltb, cond-false}
+use Rattle.columns.specs.declared.Refusal.{Refusal}
 use Rattle.columns.specs.declared.Refusal.TheVariants.{TooManyColumns, TooWide}
 use Rattle.columns.specs.Layout.{first_too_wide, answered}
 
-pub first_too_wide_more : (i : ℕ) (ns : List ℕ) → i < length ns → first_too_wide i (drop i ns) ≡ cond (ltb 100000 (get_or ns i 0)) (Err (TooWide i)) (first_too_wide (i + 1) (drop (i + 1) ns))
-first_too_wide_more i ns h =
-    at_drop_more (first_too_wide i) ns i 0 h
-    ∙ ap (λ n. cond (ltb 100000 (get_or ns i 0)) (Err (TooWide i)) (first_too_wide n (drop (i + 1) ns))) (sym (add-one i))
+-- what is answered where the first column that is too wide is this one, or none
+abbrev pub told : Option ℕ → Result (Unit {0}) Refusal
+told None = Ok tt
+told (Some i) = Err (TooWide i)
+
+first_too_wide-told : (i : ℕ) (ns : List ℕ) → first_too_wide i ns ≡ told (position_from (ltb 100000) i ns)
+first_too_wide-told i [] = refl
+first_too_wide-told i (n ∷ ns) =
+    at (ltb 100000 n) (first_too_wide-told (suc i) ns ∙ ap (λ k. told (position_from (ltb 100000) k ns)) (sym (add-one i)))
+  where
+    at : (t : Bool) → first_too_wide (suc i) ns ≡ told (position_from (ltb 100000) (i + 1) ns)
+        → cond t (Err (TooWide i)) (first_too_wide (suc i) ns) ≡ told (cond t (Some i) (position_from (ltb 100000) (i + 1) ns))
+    at true more = refl
+    at false more = more
+
+pub answered_by : (ns : List ℕ) {r : Option ℕ} (v : Option ℕ) → length ns ≤ 32 → r ≡ v
+    → r ≡ cond (ltb (position_or_len (ltb 100000) ns) (length ns)) (Some (position_or_len (ltb 100000) ns)) None → told v ≡ answered ns
+answered_by ns v few is found =
+    ap told (sym is ∙ (found ∙ position_from-zero (ltb 100000) ns))
+    ∙ (sym (first_too_wide-told 0 ns) ∙ sym (cond-false (ltb 32 (length ns)) (Err TooManyColumns) (first_too_wide 0 ns) (le-ltb 32 (length ns) few)))
 
 -- what an admitted question has
 first_too_wide-none : (i : ℕ) (ns : List ℕ) → first_too_wide i ns ≡ Ok tt → (k : ℕ) → k < length ns → get_or ns k 0 ≤ 100000

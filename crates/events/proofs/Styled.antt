@@ -1,15 +1,26 @@
-use Rattle.std.proofs.Common.{◌≡◌, ℕ, ◌+◌, ◌<◌, ◌≤◌, true, false, List, length, get_or, drop, Ok, Err, sym, ap, ◌∙◌}
-use Rattle.std.proofs.lemmas.List.{drop_more, drop_all}
-use Rattle.std.proofs.lemmas.Bool.{cond-true, cond-false}
+-- The first style with an unknown colour is the one that the check refuses.
+use Rattle.std.proofs.Common.{◌≡◌, ℕ, ◌+◌, Bool, true, false, cond, not, List, [], ◌∷◌, Some, None, Ok, Err, Option, Result, refl, ap, ◌∙◌}
+use Rattle.std.specs.List.{position, position_from}
+use Rattle.std.proofs.lemmas.Iterator.Adapters.{position_from-zero}
 use Rattle.style.specs.declared.Style.{Style}
+use Rattle.events.specs.declared.refusal.Refusal.{Refusal}
 use Rattle.events.specs.declared.refusal.Refusal.TheVariants as refused
 use Rattle.events.specs.Styles.{has_colours, styles_checked}
 
-pub a_known_style_passes : (ss : List Style) (i : ℕ) (d : Style) → i < length ss → has_colours (get_or ss i d) ≡ true → styles_checked (i + 1) (drop (i + 1) ss) ≡ styles_checked i (drop i ss)
-a_known_style_passes ss i d h ok = sym (ap (styles_checked i) (drop_more ss i d h) ∙ cond-true (has_colours (get_or ss i d)) _ _ ok)
+abbrev bad : Style → Bool
+bad s = not (has_colours s)
 
-pub an_unknown_style_is_refused : (ss : List Style) (i : ℕ) (d : Style) → i < length ss → has_colours (get_or ss i d) ≡ false → Err (refused.Style i) ≡ styles_checked i (drop i ss)
-an_unknown_style_is_refused ss i d h bad = sym (ap (styles_checked i) (drop_more ss i d h) ∙ cond-false (has_colours (get_or ss i d)) _ _ bad)
+abbrev refused_at : Option ℕ → Result (Unit {0}) Refusal
+refused_at None = Ok tt
+refused_at (Some n) = Err (refused.Style n)
 
-pub no_style_is-left : (ss : List Style) (i : ℕ) → length ss ≤ i → Ok tt ≡ styles_checked i (drop i ss)
-no_style_is-left ss i h = sym (ap (styles_checked i) (drop_all i ss h))
+this_or_later : (known : Bool) (n : ℕ) (later : Option ℕ) (r : Result (Unit {0}) Refusal) → refused_at later ≡ r → refused_at (cond (not known) (Some n) later) ≡ cond known r (Err (refused.Style n))
+this_or_later true n later r h = h
+this_or_later false n later r h = refl
+
+refused_from : (ss : List Style) (n : ℕ) → refused_at (position_from bad n ss) ≡ styles_checked n ss
+refused_from [] n = refl
+refused_from (s ∷ ss) n = this_or_later (has_colours s) n (position_from bad (n + 1) ss) (styles_checked (n + 1) ss) (refused_from ss (n + 1))
+
+pub the_first_bad_style_is_refused : (ss : List Style) (r : Option ℕ) → r ≡ position bad ss → refused_at r ≡ styles_checked 0 ss
+the_first_bad_style_is_refused ss r h = ap refused_at (h ∙ position_from-zero bad ss) ∙ refused_from ss 0

@@ -4,6 +4,11 @@ use Rattle.events.specs.declared.event.Tag.{Tag}
 use Rattle.events.specs.declared.event.Tag.TheVariants.{Strong, Emphasis, CodeBlock, Paragraph, Heading, Item, List, Table, TableHead, TableRow, TableCell}
 use Rattle.events.specs.declared.event.Kind.{Kind}
 use Rattle.events.specs.declared.event.Kind.TheVariants.{Text, Code, SoftBreak, HardBreak, Start, End, Other}
+use Rattle.events.specs.declared.event.Unknown.{Unknown}
+
+-- What is said of a number that means nothing.
+abbrev pub unknown : Unknown
+unknown = record {}
 
 -- The number that starts a tag.
 abbrev pub start_of : Tag → ℕ

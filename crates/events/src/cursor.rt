@@ -1,6 +1,7 @@
 // A cursor over events and their text, used by whoever walks over a load.
-ghost use Rattle.std.specs.Prelude.{◌≡◌, ◌+◌, ◌<◌, ◌≤◌, [], ◌∷◌, length, MatchOption, slice_index_or};
-ghost use Rattle.events.specs.Cursors.{no_event, left, bytes_of};
+ghost use Rattle.std.specs.Prelude.{◌≡◌};
+ghost use Rattle.std.specs.Iterator.{item_count};
+ghost use Rattle.events.specs.Cursors.{left, bytes_of, Gives};
 
 use super::event::Event;
 
@@ -28,29 +29,6 @@ impl<'a> Cursor<'a> {
         }
     }
 
-    // The next event, if one is left.
-    pub fn next(&mut self) -> Option<Event>
-        ensures cases { MatchOption result (left self.old ≡ []) (λ e. left self.old ≡ e ∷ left self.new) }
-        ensures at { self.new.at ≡ self.old.taken }
-        ensures taken { MatchOption result (self.new.taken ≡ self.old.taken) (λ _. self.new.taken ≡ self.old.taken + 1) }
-        ensures same { self.new.text.now ≡ self.old.text.now }
-    {
-        self.at = self.taken;
-        let event = self.peek()?;
-        self.taken += 1;
-        Some(event)
-    }
-
-    fn peek(&self) -> Option<Event>
-        ensures cases { MatchOption result (length self.now.events.now ≤ self.now.taken) (λ e. (self.now.taken < length self.now.events.now) × (e ≡ slice_index_or self.now.events.now self.now.taken no_event)) }
-    {
-        if self.taken < self.events.len() {
-            Some(self.events[self.taken])
-        } else {
-            None
-        }
-    }
-
     // The number of the event where the cursor stopped.
     pub fn at(&self) -> usize
         ensures value { result ≡ self.now.at }
@@ -64,10 +42,22 @@ impl<'a> Cursor<'a> {
     {
         let from = event.place as usize;
         let to = from + event.length as usize;
-        if to > self.text.len() {
-            &self.text[0..0]
-        } else {
-            &self.text[from..to]
-        }
+        self.text.get(from..to).unwrap_or_default()
+    }
+}
+
+impl<'a> Iterator for Cursor<'a> {
+    type Item = Event;
+
+    ghost next_gives = { Gives };
+
+    ghost remaining = { item_count left };
+
+    // The next event, if one is left.
+    fn next(&mut self) -> Option<Event> {
+        self.at = self.taken;
+        let event = self.events.get(self.taken).copied()?;
+        self.taken += 1;
+        Some(event)
     }
 }

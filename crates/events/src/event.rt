@@ -1,9 +1,10 @@
 ghost use Rattle.std.specs.Prelude.{◌≡◌};
-ghost use Rattle.events.specs.Kinds.{tag_of, kind_of, start_of};
+ghost use Rattle.std.specs.Option.{ok_or};
+ghost use Rattle.events.specs.Kinds.{tag_of, kind_of, start_of, unknown};
 
 // An event as the host gives it. `end` (in the source), `columns` and `alignments` matter for the
 // start of a table alone.
-#[derive(Clone, Copy)]
+#[derive(Clone, Copy, PartialEq, Eq, Debug)]
 pub struct Event {
     pub kind: u8,
     pub place: u32,
@@ -14,7 +15,7 @@ pub struct Event {
 }
 
 // What a start opens and an end closes, each with the number of its start.
-#[derive(Clone, Copy)]
+#[derive(Clone, Copy, PartialEq, Eq, Debug)]
 pub enum Tag {
     Strong = 10,
     Emphasis = 11,
@@ -29,7 +30,7 @@ pub enum Tag {
     TableCell = 20,
 }
 
-#[derive(Clone, Copy)]
+#[derive(Clone, Copy, PartialEq, Eq, Debug)]
 pub enum Kind {
     Text,
     Code,
@@ -49,22 +50,50 @@ impl Tag {
     }
 }
 
-fn tag_of(number: u8) -> Option<Tag>
-    ensures value { result ≡ tag_of number }
-{
-    match number {
-        10 => Some(Tag::Strong),
-        11 => Some(Tag::Emphasis),
-        12 => Some(Tag::CodeBlock),
-        13 => Some(Tag::Paragraph),
-        14 => Some(Tag::Heading),
-        15 => Some(Tag::Item),
-        16 => Some(Tag::List),
-        17 => Some(Tag::Table),
-        18 => Some(Tag::TableHead),
-        19 => Some(Tag::TableRow),
-        20 => Some(Tag::TableCell),
-        _ => None,
+// A number that means no kind, or starts no tag.
+#[derive(Clone, Copy, PartialEq, Eq, Debug)]
+pub struct Unknown;
+
+impl TryFrom<u8> for Tag {
+    type Error = Unknown;
+
+    ghost try_from_gives = { λ number r. r ≡ ok_or (tag_of number) unknown };
+
+    // The tag that the number starts.
+    fn try_from(number: u8) -> Result<Tag, Unknown> {
+        match number {
+            10 => Ok(Tag::Strong),
+            11 => Ok(Tag::Emphasis),
+            12 => Ok(Tag::CodeBlock),
+            13 => Ok(Tag::Paragraph),
+            14 => Ok(Tag::Heading),
+            15 => Ok(Tag::Item),
+            16 => Ok(Tag::List),
+            17 => Ok(Tag::Table),
+            18 => Ok(Tag::TableHead),
+            19 => Ok(Tag::TableRow),
+            20 => Ok(Tag::TableCell),
+            _ => Err(Unknown),
+        }
+    }
+}
+
+impl TryFrom<u8> for Kind {
+    type Error = Unknown;
+
+    ghost try_from_gives = { λ number r. r ≡ ok_or (kind_of number) unknown };
+
+    fn try_from(number: u8) -> Result<Kind, Unknown> {
+        match number {
+            0 => Ok(Kind::Text),
+            1 => Ok(Kind::Code),
+            2 => Ok(Kind::SoftBreak),
+            3 => Ok(Kind::HardBreak),
+            10..=20 => Ok(Kind::Start(Tag::try_from(number)?)),
+            30..=40 => Ok(Kind::End(Tag::try_from(number - 20)?)),
+            50 => Ok(Kind::Other),
+            _ => Err(Unknown),
+        }
     }
 }
 
@@ -72,14 +101,5 @@ fn tag_of(number: u8) -> Option<Tag>
 pub fn kind_of(number: u8) -> Option<Kind>
     ensures value { result ≡ kind_of number }
 {
-    match number {
-        0 => Some(Kind::Text),
-        1 => Some(Kind::Code),
-        2 => Some(Kind::SoftBreak),
-        3 => Some(Kind::HardBreak),
-        10..=20 => Some(Kind::Start(tag_of(number)?)),
-        30..=40 => Some(Kind::End(tag_of(number - 20)?)),
-        50 => Some(Kind::Other),
-        _ => None,
-    }
+    Kind::try_from(number).ok()
 }

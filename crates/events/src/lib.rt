@@ -8,7 +8,7 @@
 #![tactic(auto)]
 
 pub use cursor::Cursor;
-pub use event::{Event, Kind, Tag, kind_of};
+pub use event::{Event, Kind, Tag, Unknown, kind_of};
 pub use refusal::{Amount, Refusal};
 pub use styles::{MarkdownStyles, check_styles};
 

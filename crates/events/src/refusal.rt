@@ -5,10 +5,10 @@ ghost use Rattle.events.specs.Refusals.{amount_number, numbered};
 // What a sheet keeps in limited number.
 #[derive(Clone, Copy, PartialEq, Eq, Debug)]
 pub enum Amount {
-    Glyphs,
-    Lines,
-    Rows,
-    Tables,
+    Glyphs = 0,
+    Lines = 1,
+    Rows = 2,
+    Tables = 3,
 }
 
 #[derive(Clone, Copy, PartialEq, Eq, Debug)]
@@ -29,12 +29,7 @@ impl Amount {
     pub fn number(self) -> u64
         ensures value { result ≡ amount_number self }
     {
-        match self {
-            Amount::Glyphs => 0,
-            Amount::Lines => 1,
-            Amount::Rows => 2,
-            Amount::Tables => 3,
-        }
+        self as u64
     }
 }
 
@@ -48,7 +43,7 @@ impl Refusal {
             Refusal::Nesting(event) => (2, event),
             Refusal::Ruler(event) => (3, event),
             Refusal::Amount(amount) => (4, amount.number()),
-            Refusal::Style(style) => (9, style as u64),
+            Refusal::Style(style) => (9, u64::from(style)),
         }
     }
 }

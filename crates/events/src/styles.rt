@@ -1,5 +1,5 @@
 // The eight styles of a sheet.
-ghost use Rattle.std.specs.Prelude.{◌≡◌};
+ghost use Rattle.std.specs.Prelude.{◌≡◌, not, position};
 ghost use Rattle.events.specs.Styles.{defaults, in_order, has_colours, styles_checked};
 
 use super::refusal::Refusal;
@@ -11,7 +11,7 @@ const YELLOW: u8 = 4;
 
 const CYAN: u8 = 7;
 
-#[derive(Clone, Copy)]
+#[derive(Clone, Copy, PartialEq, Eq, Debug)]
 pub struct MarkdownStyles {
     pub base: Style,
     pub code_inline: Style,
@@ -76,20 +76,20 @@ fn has_known_colours(style: Style) -> bool
     style.fg <= LAST_COLOUR && style.bg <= LAST_COLOUR
 }
 
-fn check_each(styles: &[Style; 8]) -> Result<(), Refusal>
-    ensures value { result ≡ styles_checked 0 styles.now }
+// The number of the first style with a colour that does not exist.
+fn first_bad(styles: &[Style; 8]) -> Option<usize>
+    ensures value { result ≡ position (λ style. not (has_colours style)) styles.now }
 {
-    for (i, style) in styles.iter().enumerate() {
-        if !has_known_colours(*style) {
-            return Err(Refusal::Style(i as u8));
-        }
-    }
-    Ok(())
+    styles.iter().position(|style| !has_known_colours(*style))
 }
 
 // Refuses the first style with a colour that does not exist.
+#[tactic(auto, using(crate::proofs::Styled::the_first_bad_style_is_refused))]
 pub fn check_styles(styles: &MarkdownStyles) -> Result<(), Refusal>
     ensures value { result ≡ styles_checked 0 (in_order styles.now) }
 {
-    check_each(&styles.in_order())
+    match first_bad(&styles.in_order()) {
+        Some(number) => Err(Refusal::Style(number as u8)),
+        None => Ok(()),
+    }
 }

@@ -1,11 +1,10 @@
 -- Glyphs written into memory, and the walk through a text.
 use Rattle.std.proofs.Common.{◌≡◌, ℕ, suc, ◌+◌, ◌-◌, ◌<◌, ◌≤◌, min, Bool, true, false, cond, eqb, List, [], ◌∷◌, ◌++◌, length, get_or, take, drop, set, replicate, sym, refl, ap, ◌∙◌, subst, ⊎_elim, append_assoc, add-zero, arith, length-append, length-drop, length-set, take-append-drop, length-take, take-suc-set}
 use lib.Seq.{sets, length-sets, take-nil}
-use Rattle.std.proofs.lemmas.List.{length-replicate, take-replicate, take_all, drop_all, drop-drop, drop-set-lt, drop_more, set_past}
+use Rattle.std.proofs.lemmas.List.{length-replicate, take-replicate, take_all, drop_all, drop-drop, drop-set-lt, drop_more, set_past, take_rest}
 use Rattle.std.proofs.lemmas.Bool.{cases_lt}
 use Rattle.std.specs.List.{flat_map}
 use Rattle.style.specs.declared.Style.{Style}
-use Rattle.clusters.specs.declared.Cluster.{Cluster}
 use Rattle.clusters.specs.Cuts.{Cut, cut_off, cut}
 use Rattle.glyphs.specs.Rulings.{Ruling, cut_at}
 use Rattle.clusters.proofs.Cutting.{cut_more}
@@ -95,16 +94,23 @@ sets_more gs hs i n xs ys e h =
     (cases_lt (length xs) (suc (length gs - i)))
 
 -- a cluster of what is left of a string lies in it, and has 1 to 8 bytes
-pub sized_at : (m : Ruling) (s : List ℕ) (at : ℕ) (c : Cluster) → c ≡ m.first (drop at s) → at < length s → (1 ≤ c.len) × (c.len ≤ 8) × (at + c.len ≤ length s)
-sized_at m s at c e h =
+pub sized_at : (m : Ruling) (s : List ℕ) (at : ℕ) → at < length s → (1 ≤ (m.first (drop at s)).len) × ((m.first (drop at s)).len ≤ 8) × (at + (m.first (drop at s)).len ≤ length s)
+sized_at m s at h =
     let d = drop_more s at 0 h in
     let o = m.onward (get_or s at 0) (drop (at + 1) s) in
     let small = m.small (drop at s) in
-    let f : m.first (drop at s) ≡ m.first (get_or s at 0 ∷ drop (at + 1) s) = ap m.first d in
-    let n = ap (λ (k : Cluster). k.len) (e ∙ f) in
-    let k = ap (λ (k : Cluster). k.len) e in
+    let n = ap (λ l. (m.first l).len) d in
     let l = ap length d in
     (omega arith, omega arith, omega (arith, length-drop at s))
+
+-- a string is its first cluster, and then what is left of it
+pub cut_step : (m : Ruling) (s bs : List ℕ) (w : ℕ) → 0 < length s → bs ≡ (cut_at m s 0).bytes → w ≡ (cut_at m s 0).width → length bs ≡ (m.first s).len →
+    cut m.first s ≡ record { bytes = bs; width = w } ∷ cut m.first (take (length s - length bs) (drop (length bs) s))
+cut_step m [] bs w h e f l = absurd (omega arith)
+cut_step m (b ∷ s) bs w h e f l =
+    let c = cut_more m.first m.onward b s in
+    let t = take_rest (b ∷ s) (length bs) in
+    cc
 
 -- the glyphs of what is left are those of its first cluster and then those of the rest
 pub sanitized_step : (m : Ruling) (t : Style) (s : List ℕ) (at : ℕ) → at < length s →
@@ -130,36 +136,25 @@ shown_by true thin a b d = refl
 shown_by false true a b d = refl
 shown_by false false a b d = refl
 
-pub shown_same : (t : Style) (c : Cut) (bs : List ℕ) (w : ℕ) → bs ≡ c.bytes → w ≡ c.width → replicate (times_of bs) (glyph_for t bs w) ≡ shown t c
-shown_same t c bs w e f =
-    ap (λ l. replicate (times_of l) (glyph_for t l w)) e ∙ ap (λ v. replicate (times_of c.bytes) (glyph_for t c.bytes v)) f
-    ∙ shown_by (is_tab c.bytes) (eqb c.width 0) (space t) (replacement t) (glyph_of c.bytes c.width t)
+-- the glyphs of a first cluster, and those of the others
+pub count_step : (t : Style) (c : Cut) (cs ds : List Cut) → ds ≡ c ∷ cs → length (flat_map (shown t) ds) ≡ times_of c.bytes + length (flat_map (shown t) cs)
+count_step t c cs ds e =
+    let g = glyph_for t c.bytes c.width in
+    ap (λ l. length (flat_map (shown t) l)) e
+    ∙ length-append (shown t c) (flat_map (shown t) cs)
+    ∙ ap (λ l. length l + length (flat_map (shown t) cs)) (sym (shown_by (is_tab c.bytes) (eqb c.width 0) (space t) (replacement t) (glyph_of c.bytes c.width t)))
+    ∙ ap (λ n. n + length (flat_map (shown t) cs)) (length-replicate (times_of c.bytes) g)
 
--- one cluster on: the glyphs of what is left
-pub left_step : (m : Ruling) (t : Style) (s bs : List ℕ) (at w : ℕ) → at < length s → bs ≡ (cut_at m s at).bytes → w ≡ (cut_at m s at).width → length bs ≡ (m.first (drop at s)).len →
-    sanitized m t (drop at s) ≡ replicate (times_of bs) (glyph_for t bs w) ++ sanitized m t (drop (at + length bs) s)
-left_step m t s bs at w h e f l =
-    sanitized_step m t s at h
-    ∙ ap (λ x. x ++ sanitized m t (drop (at + (m.first (drop at s)).len) s)) (sym (shown_same t (cut_at m s at) bs w e f))
-    ∙ ap (λ n. replicate (times_of bs) (glyph_for t bs w) ++ sanitized m t (drop (at + n) s)) (sym l)
-
-pub count_step : (m : Ruling) (t : Style) (s bs : List ℕ) (at w : ℕ) → at < length s → bs ≡ (cut_at m s at).bytes → w ≡ (cut_at m s at).width → length bs ≡ (m.first (drop at s)).len →
-    length (sanitized m t (drop at s)) ≡ times_of bs + length (sanitized m t (drop (at + length bs) s))
-count_step m t s bs at w h e f l =
-    let g = glyph_for t bs w in
-    ap length (left_step m t s bs at w h e f l)
-    ∙ length-append (replicate (times_of bs) g) (sanitized m t (drop (at + length bs) s))
-    ∙ ap (λ n. n + length (sanitized m t (drop (at + length bs) s))) (length-replicate (times_of bs) g)
-
--- a cluster's glyphs written at p, and then those of what is left behind them
-pub written_step : (m : Ruling) (t : Style) (s bs : List ℕ) (at w : ℕ) → at < length s → bs ≡ (cut_at m s at).bytes → w ≡ (cut_at m s at).width → length bs ≡ (m.first (drop at s)).len →
-    (gs hs : List Glyph) (p k q times : ℕ) (g : Glyph) → times ≡ times_of bs → g ≡ glyph_for t bs w → hs ≡ overwritten gs p (replicate times g) → k ≡ min times (length gs - p) → q ≡ p + k →
-    sets hs q (sanitized m t (drop (at + length bs) s)) ≡ sets gs p (sanitized m t (drop at s))
-written_step m t s bs at w h e f l gs hs p k q times g n u v x y =
-    let rest = sanitized m t (drop (at + length bs) s) in
-    let r : replicate times g ≡ replicate (times_of bs) (glyph_for t bs w) = ap (λ i. replicate i g) n ∙ ap (replicate (times_of bs)) u in
-    let c : k ≡ min (length (replicate times g)) (length gs - p) = x ∙ ap (λ i. min i (length gs - p)) (sym (length-replicate times g)) in
+-- a cluster's glyphs written at p, and then those of the others behind them
+pub written_step : (t : Style) (c : Cut) (cs ds : List Cut) → ds ≡ c ∷ cs →
+    (gs hs : List Glyph) (p k q times : ℕ) (g : Glyph) → times ≡ times_of c.bytes → g ≡ glyph_for t c.bytes c.width → hs ≡ overwritten gs p (replicate times g) → k ≡ min times (length gs - p) → q ≡ p + k →
+    sets hs q (flat_map (shown t) cs) ≡ sets gs p (flat_map (shown t) ds)
+written_step t c cs ds e gs hs p k q times g n u v x y =
+    let rest = flat_map (shown t) cs in
+    let r : replicate times g ≡ shown t c =
+    ap (λ i. replicate i g) n ∙ ap (replicate (times_of c.bytes)) u ∙ shown_by (is_tab c.bytes) (eqb c.width 0) (space t) (replacement t) (glyph_of c.bytes c.width t) in
+    let m : k ≡ min (length (replicate times g)) (length gs - p) = x ∙ ap (λ i. min i (length gs - p)) (sym (length-replicate times g)) in
     ap (λ i. sets hs i rest) y
-    ∙ sets_more gs hs p k (replicate times g) rest v c
+    ∙ sets_more gs hs p k (replicate times g) rest v m
     ∙ ap (λ z. sets gs p (z ++ rest)) r
-    ∙ ap (sets gs p) (sym (left_step m t s bs at w h e f l))
+    ∙ ap (λ l. sets gs p (flat_map (shown t) l)) (sym e)

@@ -1,2 +1,3 @@
 pub mod Rulings
 pub mod Glyphs
+pub mod Pieces

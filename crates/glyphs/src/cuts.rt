@@ -17,17 +17,26 @@ const REPLACEMENT: Symbol = Symbol {
     len: 3,
 };
 
-// A cluster cut out of a text.
+// A cluster cut out of a text: at most 8 bytes.
 #[derive(Clone, Copy)]
 pub struct Cut<'a> {
     pub bytes: &'a [u8],
     pub width: u8,
+    pub ghost short: { length bytes.now ≤ 8 },
+}
+
+impl Cut<'_> {
+    fn symbol(self) -> Symbol
+        ensures value { result ≡ symbol_of self.entry.bytes.now }
+    {
+        Symbol::new(self.bytes).unwrap()
+    }
 }
 
 fn is_tab(bytes: &[u8]) -> bool
     ensures value { result ≡ is_tab bytes.now }
 {
-    bytes.len() == 1 && bytes[0] == TAB
+    matches!(bytes, [TAB])
 }
 
 // How many glyphs a cluster becomes.
@@ -37,16 +46,8 @@ pub fn glyph_count(bytes: &[u8]) -> usize
     if is_tab(bytes) { TAB_SPACES } else { 1 }
 }
 
-fn symbol_of(bytes: &[u8]) -> Symbol
-    requires { length bytes.now ≤ 8 }
-    ensures value { result ≡ symbol_of bytes.now }
-{
-    Symbol::new(bytes).unwrap()
-}
-
 // The glyph that a cluster becomes, once or several times.
 pub fn glyph_of(cut: Cut<'_>, style: Style) -> Glyph
-    requires { length cut.bytes.now ≤ 8 }
     ensures value { result ≡ (if is_tab cut.entry.bytes.now then space style else (if nat_eq cut.entry.width 0 then replacement style else glyph_of cut.entry.bytes.now cut.entry.width style)) }
 {
     let (symbol, width) = if is_tab(cut.bytes) {
@@ -54,7 +55,7 @@ pub fn glyph_of(cut: Cut<'_>, style: Style) -> Glyph
     } else if cut.width == 0 {
         (REPLACEMENT, 1)
     } else {
-        (symbol_of(cut.bytes), cut.width)
+        (cut.symbol(), cut.width)
     };
     Glyph {
         symbol,
@@ -84,7 +85,8 @@ pub fn fill(glyphs: &mut [Glyph], from: usize, times: usize, glyph: Glyph) -> us
 
 // The bytes of a cluster at a place, with its width.
 pub fn cut_out<'a>(text: &'a [u8], at: usize, c: Cluster) -> Cut<'a>
-    requires { at + c.len ≤ length text.now }
+    requires inside { at + c.len ≤ length text.now }
+    requires short { c.len ≤ 8 }
     ensures bytes { result.bytes.now ≡ take c.len (drop at text.now) }
     ensures width { result.width ≡ c.width }
     ensures len { length result.bytes.now ≡ c.len }

@@ -25,7 +25,7 @@ use cuts::{cut_out, fill};
 use style::{Style, Symbol};
 
 // One character of a line: what is shown, in how many columns, and how.
-#[derive(Clone, Copy)]
+#[derive(Clone, Copy, PartialEq, Eq, Debug)]
 pub struct Glyph {
     pub symbol: Symbol,
     pub width: u8,
@@ -37,7 +37,7 @@ impl Glyph {
     pub fn is_space(&self) -> bool
         ensures value { result ≡ is_space self.now }
     {
-        self.symbol.len == 1 && self.symbol.bytes == 32
+        self.symbol == Symbol::SPACE
     }
 }
 
@@ -87,10 +87,11 @@ impl Ruler for Utf8 {
 }
 
 // The cluster of a text that begins at a place, none at its end.
+#[tactic(auto, using(crate::proofs::Walking::sized_at))]
 pub fn cut_at<'a, R: Ruler>(ruler: &R, text: &'a [u8], at: usize) -> Option<Cut<'a>>
     ensures cases { MatchOption result (length text.now ≤ at) (λ c. (at < length text.now) × (c.bytes.now ≡ (cut_at (R.Ruler.meaning ruler.now) text.now at).bytes) × (c.width ≡ (cut_at (R.Ruler.meaning ruler.now) text.now at).width)) }
     ensures len { IfSome result (λ c. length c.bytes.now ≡ ((R.Ruler.meaning ruler.now).first (drop at text.now)).len) }
-    ensures bound { IfSome result (λ c. (1 ≤ length c.bytes.now) × (length c.bytes.now ≤ 8) × (at + length c.bytes.now ≤ length text.now)) }
+    ensures bound { IfSome result (λ c. (1 ≤ length c.bytes.now) × (at + length c.bytes.now ≤ length text.now)) }
 {
     if at >= text.len() {
         return None;
@@ -99,15 +100,48 @@ pub fn cut_at<'a, R: Ruler>(ruler: &R, text: &'a [u8], at: usize) -> Option<Cut<
     Some(cut_out(text, at, cluster))
 }
 
+// The clusters of a text, one after another: the text is what is left of it.
+#[derive(Clone, Copy)]
+pub struct Clusters<'a, R> {
+    pub ruler: &'a R,
+    pub text: &'a [u8],
+}
+
+impl<'a, R> Clusters<'a, R> {
+    pub fn new(ruler: &'a R, text: &'a [u8]) -> Self
+        ensures ruler { result.ruler.now ≡ ruler.now }
+        ensures text { result.text.now ≡ text.now }
+    {
+        Clusters { ruler, text }
+    }
+}
+
+impl<'a, R: Ruler> Iterator for Clusters<'a, R> {
+    ghost use Rattle.std.specs.Iterator.{YieldsFirstBy, item_count};
+    ghost use Rattle.clusters.specs.Cuts.{cut};
+    ghost use Rattle.glyphs.specs.Pieces.{piece};
+
+    type Item = Cut<'a>;
+
+    ghost next_gives = { YieldsFirstBy piece (λ s. cut (R.Ruler.meaning s.ruler.now).first s.text.now) };
+
+    ghost remaining = { item_count (λ s. cut (R.Ruler.meaning s.ruler.now).first s.text.now) };
+
+    #[tactic(auto, using(crate::proofs::Walking::cut_step))]
+    fn next(&mut self) -> Option<Cut<'a>> {
+        let cut = cut_at(self.ruler, self.text, 0)?;
+        self.text = &self.text[cut.bytes.len()..];
+        Some(cut)
+    }
+}
+
 // How many glyphs a text becomes, whatever the style. The count stops at the greatest `usize`.
 pub fn count_glyphs<R: Ruler>(ruler: &R, text: &[u8]) -> usize
     ensures value { (t : Look) → result ≡ min (length (sanitized (R.Ruler.meaning ruler.now) t text.now)) (2 ^ 64 - 1) }
 {
     let mut count: usize = 0;
-    let mut at = 0;
-    while let Some(cut) = cut_at(ruler, text, at) {
+    for cut in Clusters::new(ruler, text) {
         count = count.saturating_add(glyph_count(cut.bytes));
-        at += cut.bytes.len();
     }
     count
 }
@@ -126,11 +160,9 @@ pub fn sanitize<R: Ruler>(
     ensures clean { (R.Ruler.meaning ruler.now).admits text.now ≡ true → AllByRecursion Clean (sanitized (R.Ruler.meaning ruler.now) style text.now) }
 {
     let mut written = 0;
-    let mut at = 0;
-    while let Some(cut) = cut_at(ruler, text, at) {
+    for cut in Clusters::new(ruler, text) {
         let count = glyph_count(cut.bytes);
         written += fill(glyphs, from + written, count, glyph_of(cut, style));
-        at += cut.bytes.len();
     }
     written
 }

@@ -1,4 +1,4 @@
-use Rattle.std.proofs.Common.{◌≡◌, ℕ, ◌+◌, ◌-◌, ◌<◌, ◌≤◌, Bool, true, false, cond, eqb, ltb, ◌⊎◌, List, [], ◌∷◌, length, set, Some, sym, refl, ap, ◌∙◌, subst, inl, inr, arith}
+use Rattle.std.proofs.Common.{◌≡◌, ℕ, ◌+◌, ◌-◌, ◌<◌, ◌≤◌, Bool, true, false, cond, eqb, ltb, ◌⊎◌, List, [], ◌∷◌, length, set, Some, None, sym, refl, ap, ◌∙◌, subst, inl, inr, arith}
 use Rattle.std.specs.List.{AllByRecursion as All}
 use Rattle.std.proofs.lemmas.Bool.Decides.{nat_tests}
 use Rattle.std.proofs.lemmas.List.{length_push}
@@ -9,7 +9,7 @@ use Rattle.events.specs.declared.event.Tag.TheVariants as tag
 use Rattle.checks.specs.declared.marks.Place.{Place}
 use Rattle.checks.specs.declared.marks.Place.TheVariants as place
 use Rattle.checks.specs.declared.marks.Mark.{Mark}
-use Rattle.checks.specs.declared.marks.Move.TheVariants.{Refuse, Close, Open, Enter}
+use Rattle.checks.specs.declared.marks.Move.TheVariants.{Close, Open, Enter}
 use Rattle.checks.specs.Marks.{place_in, is_a, outside, allowed, applied}
 use Rattle.records.specs.declared.kinds.Info.{Info}
 use Rattle.records.specs.Acts.{Act, put, end_line, begin_table, end_entry, end_head, end_row, end_table}
@@ -149,7 +149,7 @@ push_if : (b : Bool) (ms : List Mark) (m : Mark) (d : Draft) (xs : List Act) →
 push_if true ms m d xs e o = o
 push_if false ms m d xs e o = let z : ◌≡◌ {A = ℕ} 0 1 = cc in absurd (omega arith)
 
-pub open_step : (ms : List Mark) (m : Mark) (d : Draft) (xs : List Act) → allowed 64 ms (Open m) ≡ true → Onward (m ∷ ms) d xs → Onward (applied 64 ms (Open m)) d xs
+pub open_step : (ms : List Mark) (m : Mark) (d : Draft) (xs : List Act) → allowed 64 ms (Some (Open m)) ≡ true → Onward (m ∷ ms) d xs → Onward (applied 64 ms (Some (Open m))) d xs
 open_step ms m d xs e o = push_if (ltb (length ms) 64) ms m d xs e o
 
 pub outside_step : (p : Place) (ms : List Mark) (m : Mark) (d : Draft) (xs : List Act) → allowed 64 ms (outside p m) ≡ true → (p ≡ place.Prose → Onward (m ∷ ms) d xs) → Onward (applied 64 ms (outside p m)) d xs
@@ -157,11 +157,11 @@ outside_step place.Prose ms m d xs e o = open_step ms m d xs e (o refl)
 outside_step place.Table ms m d xs e o = let z : ◌≡◌ {A = ℕ} 0 1 = cc in absurd (omega arith)
 outside_step place.Entry ms m d xs e o = let z : ◌≡◌ {A = ℕ} 0 1 = cc in absurd (omega arith)
 
-pub enter_step : (c : Bool) (ms : List Mark) (x y : Mark) (d : Draft) (xs : List Act) → allowed 64 ms (cond c (Enter x y) Refuse) ≡ true → (c ≡ true → Onward (y ∷ replaced ms x) d xs) → Onward (applied 64 ms (cond c (Enter x y) Refuse)) d xs
+pub enter_step : (c : Bool) (ms : List Mark) (x y : Mark) (d : Draft) (xs : List Act) → allowed 64 ms (cond c (Some (Enter x y)) None) ≡ true → (c ≡ true → Onward (y ∷ replaced ms x) d xs) → Onward (applied 64 ms (cond c (Some (Enter x y)) None)) d xs
 enter_step true ms x y d xs e o = push_if (ltb (length (replaced ms x)) 64) (replaced ms x) y d xs e (o refl)
 enter_step false ms x y d xs e o = let z : ◌≡◌ {A = ℕ} 0 1 = cc in absurd (omega arith)
 
-pub close_step : (c : Bool) (m : Mark) (ms : List Mark) (d : Draft) (xs : List Act) → allowed 64 (m ∷ ms) (cond c Close Refuse) ≡ true → (c ≡ true → Onward ms d xs) → Onward (applied 64 (m ∷ ms) (cond c Close Refuse)) d xs
+pub close_step : (c : Bool) (m : Mark) (ms : List Mark) (d : Draft) (xs : List Act) → allowed 64 (m ∷ ms) (cond c (Some Close) None) ≡ true → (c ≡ true → Onward ms d xs) → Onward (applied 64 (m ∷ ms) (cond c (Some Close) None)) d xs
 close_step true m ms d xs e o = o refl
 close_step false m ms d xs e o = let z : ◌≡◌ {A = ℕ} 0 1 = cc in absurd (omega arith)
 

@@ -15,9 +15,13 @@ pub data Request : Type 0 where
   columns : shares.Asked → Request
 
 -- What a command that was read asks for.
-abbrev pub request : Command → Request
-request command.Nothing = nothing
-request (command.Columns c) = columns (shares.asked c)
+abbrev pub asks_for : Command → Request
+asks_for (command.Columns c) = columns (shares.asked c)
+
+-- The same where a line may ask for nothing.
+abbrev pub request : Option Command → Request
+request None = nothing
+request (Some c) = asks_for c
 
 -- An empty line and a line that begins with `#` ask for nothing.
 abbrev pub is_quiet : List ℕ → Bool

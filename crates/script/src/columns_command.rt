@@ -32,24 +32,19 @@ fn fault_of(e: Refusal) -> Fault
 pub fn read_columns(heap: Global, mut words: Words) -> Result<ColumnsCommand, Fault>
     ensures { Gives asked result (columns_in (words_left words.entry)) }
 {
-    let Some(word) = words.next_word() else {
-        return Err(Fault::MissingNumber);
-    };
-    let width = number(word, u16::MAX as u64, Fault::TooWide)? as u16;
-    let growing = words.skip_word("streaming");
-    let natural = read_naturals(heap, words)?;
+    let word = words.next_word().ok_or(Fault::MissingNumber)?;
     Ok(ColumnsCommand {
-        width,
-        growing,
-        natural,
+        width: number(word, u16::MAX as u64, Fault::TooWide)? as u16,
+        growing: words.skip_word("streaming"),
+        natural: read_naturals(heap, words)?,
     })
 }
 
-fn read_naturals(heap: Global, mut words: Words) -> Result<Vec<u32>, Fault>
+fn read_naturals(heap: Global, words: Words) -> Result<Vec<u32>, Fault>
     ensures { Gives vec_items result (naturals_in (words_left words.entry)) }
 {
     let mut natural = Vec::new(heap);
-    while let Some(word) = words.next_word() {
+    for word in words {
         let n = number(word, u32::MAX as u64, Fault::TooWide)?;
         natural.push(n as u32)?;
     }
@@ -61,10 +56,8 @@ pub fn answer_columns(heap: Global, command: &ColumnsCommand) -> Result<String, 
 {
     let mut layout = ColumnLayout::new();
     let natural = command.natural.as_slice();
-    match share_columns(command.width, command.growing, natural, &mut layout) {
-        Ok(()) => columns_line(heap, command.width, &layout),
-        Err(refusal) => Err(fault_of(refusal)),
-    }
+    share_columns(command.width, command.growing, natural, &mut layout).map_err(fault_of)?;
+    columns_line(heap, command.width, &layout)
 }
 
 // The line that tells a layout at a page width.
@@ -79,8 +72,8 @@ pub fn columns_line(heap: Global, width: u16, layout: &ColumnLayout) -> Result<S
 fn widths_of(layout: &ColumnLayout) -> &[u16]
     ensures { result.now ≡ take layout.now.count layout.now.widths }
 {
-    let count = (layout.count as usize).min(MAX_COLUMNS);
-    &layout.widths[0..count]
+    let count = usize::from(layout.count).min(MAX_COLUMNS);
+    &layout.widths[..count]
 }
 
 // Numbers in decimal, each behind a space.

@@ -14,7 +14,7 @@
 ghost use Rattle.std.specs.Prelude.{◌≡◌, Err, string_bytes, IsUtf8};
 ghost use Rattle.std.specs.Option.{option_map};
 ghost use Rattle.words.specs.declared.faults.Fault.TheVariants.{NotText};
-ghost use Rattle.script.specs.Commands.{request, by_name, request_in, answer_in};
+ghost use Rattle.script.specs.Commands.{asks_for, request, by_name, request_in, answer_in};
 ghost use Rattle.words.specs.Input.{body};
 ghost use Rattle.words.specs.Outcomes.{Gives};
 ghost use Rattle.words.specs.Pieces.{words_left};
@@ -22,34 +22,31 @@ ghost use Rattle.words.specs.Pieces.{words_left};
 mod columns_command;
 
 pub use columns_command::{ColumnsCommand, columns_line};
+use columns_command::{answer_columns, read_columns};
 use std::alloc::Global;
 use words::{Fault, Words, text_of};
 
-// What a line asks for.
+// What a line asks for, where it asks for something.
 #[derive(Drop)]
 pub enum Command {
-    Nothing,
     Columns(ColumnsCommand),
 }
 
 // Reads what a line asks for, or says why it cannot be read.
-pub fn read_command(heap: Global, line: &str) -> Result<Command, Fault>
+pub fn read_command(heap: Global, line: &str) -> Result<Option<Command>, Fault>
     ensures { Gives request result (request_in line.now) }
 {
     if line.is_empty() || line.starts_with('#') {
-        return Ok(Command::Nothing);
+        return Ok(None);
     }
-    read_named(heap, Words::new(line))
+    Ok(Some(read_named(heap, Words::new(line))?))
 }
 
 fn read_named(heap: Global, mut words: Words) -> Result<Command, Fault>
-    ensures { Gives request result (by_name (words_left words.entry)) }
+    ensures { Gives asks_for result (by_name (words_left words.entry)) }
 {
-    let Some(name) = words.next_word() else {
-        return Err(Fault::UnknownCommand);
-    };
-    match name {
-        "columns" => Ok(Command::Columns(columns_command::read_columns(heap, words)?)),
+    match words.next_word() {
+        Some("columns") => Ok(Command::Columns(read_columns(heap, words)?)),
         _ => Err(Fault::UnknownCommand),
     }
 }
@@ -66,7 +63,7 @@ fn answer(heap: Global, line: &str) -> Result<Option<String>, Fault>
     ensures { Gives (option_map string_bytes) result (answer_in line.now) }
 {
     match read_command(heap, line)? {
-        Command::Nothing => Ok(None),
-        Command::Columns(command) => Ok(Some(columns_command::answer_columns(heap, &command)?)),
+        None => Ok(None),
+        Some(Command::Columns(command)) => Ok(Some(answer_columns(heap, &command)?)),
     }
 }

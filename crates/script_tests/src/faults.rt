@@ -2,32 +2,14 @@
 use script::answer_line;
 use std::alloc::Global;
 use std::process::Abort;
+use std::str::from_utf8;
 use std::test::Fail;
 use words::Fault;
 
-// A line that cannot be read for this fault. A failure tells the line by its name.
-fn refuses_named(
-    rt: &impl Abort,
-    heap: Global,
-    name: &str,
-    raw: &[u8],
-    fault: Fault,
-) -> Result<(), Fail> {
-    match answer_line(heap, raw) {
-        Ok(_) => Err(Fail::new(format_args!("{name}: it was read"))),
-        Err(e) => {
-            assert_eq!(rt; e, fault, "{name}");
-            Ok(())
-        },
-    }
-}
-
-fn refuses(rt: &impl Abort, heap: Global, raw: &[u8], fault: Fault) -> Result<(), Fail> {
-    refuses_named(rt, heap, "the line", raw, fault)
-}
-
-fn refuses_text(rt: &impl Abort, heap: Global, line: &str, fault: Fault) -> Result<(), Fail> {
-    refuses_named(rt, heap, line, line.as_bytes(), fault)
+// A line that cannot be read for this fault. A failure tells the line where it is text.
+fn refuses(rt: &impl Abort, heap: Global, raw: &[u8], fault: Fault) {
+    let name = from_utf8(raw).unwrap_or("bytes that are no text");
+    assert_eq!(rt; answer_line(heap, raw).err(), Some(fault), "{name}");
 }
 
 fn answers(heap: Global, raw: &[u8]) -> Result<(), Fail> {
@@ -45,7 +27,8 @@ fn refuses_behind(
     fault: Fault,
 ) -> Result<(), Fail> {
     let line = format!(in heap; "{front} {last}")?;
-    refuses_text(rt, heap, line.as_str(), fault)
+    refuses(rt, heap, line.as_bytes(), fault);
+    Ok(())
 }
 
 // As many columns as a table can have.
@@ -64,14 +47,15 @@ fn another_first_word_is_an_unknown_command(rt: HostRuntime) -> Result<(), Fail>
         "columns\t40",
         " # no comment",
     ] {
-        refuses_text(&rt, heap, line, Fault::UnknownCommand)?;
+        refuses(&rt, heap, line.as_bytes(), Fault::UnknownCommand);
     }
     Ok(())
 }
 
 #[test]
 fn a_command_without_its_width_misses_a_number(rt: HostRuntime) -> Result<(), Fail> {
-    refuses(&rt, rt.alloc(), b"columns", Fault::MissingNumber)
+    refuses(&rt, rt.alloc(), b"columns", Fault::MissingNumber);
+    Ok(())
 }
 
 #[test]
@@ -105,7 +89,7 @@ fn spaces_are_single(rt: HostRuntime) -> Result<(), Fail> {
         "columns 40 5 ",
         "columns 40 streaming ",
     ] {
-        refuses_text(&rt, heap, line, Fault::NotANumber)?;
+        refuses(&rt, heap, line.as_bytes(), Fault::NotANumber);
     }
     Ok(())
 }
@@ -115,14 +99,15 @@ fn streaming_stands_once_and_behind_the_width(rt: HostRuntime) -> Result<(), Fai
     let heap = rt.alloc();
     answers(heap, b"columns 40 streaming")?;
     answers(heap, b"columns 40 streaming 5")?;
-    refuses(&rt, heap, b"columns streaming 40 5", Fault::NotANumber)?;
-    refuses(&rt, heap, b"columns 40 5 streaming", Fault::NotANumber)?;
+    refuses(&rt, heap, b"columns streaming 40 5", Fault::NotANumber);
+    refuses(&rt, heap, b"columns 40 5 streaming", Fault::NotANumber);
     refuses(
         &rt,
         heap,
         b"columns 40 streaming streaming",
         Fault::NotANumber,
-    )
+    );
+    Ok(())
 }
 
 #[test]
@@ -131,9 +116,10 @@ fn a_page_is_at_most_65535_cells_wide(rt: HostRuntime) -> Result<(), Fail> {
     answers(heap, b"columns 0 5")?;
     answers(heap, b"columns 65535 5")?;
     answers(heap, b"columns 000000000000000000000065535 5")?;
-    refuses(&rt, heap, b"columns 65536 5", Fault::TooWide)?;
-    refuses(&rt, heap, b"columns 18446744073709551615 5", Fault::TooWide)?;
-    refuses(&rt, heap, b"columns 18446744073709551616 5", Fault::TooWide)
+    refuses(&rt, heap, b"columns 65536 5", Fault::TooWide);
+    refuses(&rt, heap, b"columns 18446744073709551615 5", Fault::TooWide);
+    refuses(&rt, heap, b"columns 18446744073709551616 5", Fault::TooWide);
+    Ok(())
 }
 
 #[test]
@@ -141,15 +127,16 @@ fn a_column_is_at_most_100000_cells_wide(rt: HostRuntime) -> Result<(), Fail> {
     let heap = rt.alloc();
     answers(heap, b"columns 40 0")?;
     answers(heap, b"columns 40 100000")?;
-    refuses(&rt, heap, b"columns 40 100001", Fault::TooWide)?;
-    refuses(&rt, heap, b"columns 40 4294967295", Fault::TooWide)?;
-    refuses(&rt, heap, b"columns 40 4294967296", Fault::TooWide)?;
+    refuses(&rt, heap, b"columns 40 100001", Fault::TooWide);
+    refuses(&rt, heap, b"columns 40 4294967295", Fault::TooWide);
+    refuses(&rt, heap, b"columns 40 4294967296", Fault::TooWide);
     refuses(
         &rt,
         heap,
         b"columns 40 5 18446744073709551616",
         Fault::TooWide,
-    )
+    );
+    Ok(())
 }
 
 #[test]
@@ -168,21 +155,23 @@ fn a_word_that_cannot_be_read_comes_before_the_limits_on_columns(
     refuses_behind(&rt, heap, FULL, "x", Fault::NotANumber)?;
     refuses_behind(&rt, heap, FULL, "4294967296", Fault::TooWide)?;
     refuses_behind(&rt, heap, FULL, "100001", Fault::TooManyColumns)?;
-    refuses(&rt, heap, b"columns 40 100001 x", Fault::NotANumber)?;
-    refuses(&rt, heap, b"columns 65536 x", Fault::TooWide)?;
-    refuses(&rt, heap, b"columns x 65536", Fault::NotANumber)
+    refuses(&rt, heap, b"columns 40 100001 x", Fault::NotANumber);
+    refuses(&rt, heap, b"columns 65536 x", Fault::TooWide);
+    refuses(&rt, heap, b"columns x 65536", Fault::NotANumber);
+    Ok(())
 }
 
 #[test]
 fn a_line_is_utf8(rt: HostRuntime) -> Result<(), Fail> {
     let heap = rt.alloc();
-    refuses(&rt, heap, b"\xff", Fault::NotText)?;
-    refuses(&rt, heap, b"columns 40 \xc3\n", Fault::NotText)?;
+    refuses(&rt, heap, b"\xff", Fault::NotText);
+    refuses(&rt, heap, b"columns 40 \xc3\n", Fault::NotText);
     refuses(
         &rt,
         heap,
         b"# half a character: \xe2\x82\r\n",
         Fault::NotText,
-    )?;
-    refuses(&rt, heap, b"\xc3\xa9", Fault::UnknownCommand)
+    );
+    refuses(&rt, heap, b"\xc3\xa9", Fault::UnknownCommand);
+    Ok(())
 }

@@ -13,8 +13,8 @@ fn reads(
     natural: &[u32],
 ) -> Result<(), Fail> {
     match read_command(heap, line)? {
-        Command::Nothing => Err(Fail::new("nothing is asked for")),
-        Command::Columns(asked) => {
+        None => Err(Fail::new("nothing is asked for")),
+        Some(Command::Columns(asked)) => {
             assert_eq!(rt; asked.width, width);
             assert_eq!(rt; asked.growing, growing);
             assert_eq!(rt; asked.natural.as_slice(), natural);

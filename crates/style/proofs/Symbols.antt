@@ -1,22 +1,46 @@
-use Rattle.std.proofs.Common.{◌≡◌, ℕ, zero, suc, ◌+◌, ◌-◌, ◌*◌, ◌/◌, ◌%◌, ◌^◌, ◌<◌, ◌≤◌, List, [], ◌∷◌, length, get_or, drop, refl, ap, ◌∙◌, arith, drop-cons, pow_mono}
+use Rattle.std.proofs.Common.{◌≡◌, ℕ, zero, suc, ◌+◌, ◌*◌, ◌/◌, ◌%◌, ◌^◌, ◌<◌, ◌≤◌, List, [], ◌∷◌, length, get_or, drop, refl, ap, ◌∙◌, arith, pow_mono}
+use Rattle.std.proofs.lemmas.List.{drop_all}
 use Rattle.std.proofs.lemmas.Nat.{pow-add, div_below}
+use Rattle.std.specs.Int.{from_le_bytes, w64}
 use Rattle.style.specs.Symbols.{packed, unpacked}
 
--- room for one more byte
-pub grown : (k j b n : ℕ) → j ≡ k + 1 → n < 2 ^ (8 * k) → b < 256 → b + 256 * n < 2 ^ (8 * j)
-grown k j b n s h p =
-    let x : 8 * j ≡ 8 * k + 8 = omega arith in
-    let e : 2 ^ (8 * j) ≡ 2 ^ (8 * k) * 256 = ap (λ y. 2 ^ y) x ∙ pow-add 2 (8 * k) 8 in
-    omega arith
+byte_more : (k : ℕ) → 2 ^ (8 * suc k) ≡ 2 ^ (8 * k) * 256
+byte_more k = let x : 8 * suc k ≡ 8 * k + 8 = omega arith in ap (λ y. 2 ^ y) x ∙ pow-add 2 (8 * k) 8
 
 pub small : (k n : ℕ) → k ≤ 8 → n < 2 ^ (8 * k) → n < 2 ^ 64
 small k n h p = let q : 8 * k ≤ 64 = omega arith in omega (arith, pow_mono q)
 
-pub packed_more : (s : List ℕ) (i : ℕ) → 0 < i → i ≤ length s → packed (drop (i - 1) s) ≡ get_or s (i - 1) 0 + 256 * packed (drop i s)
-packed_more s i p h =
-    let l : i - 1 < length s = omega arith in
-    let e : suc (i - 1) ≡ i = omega arith in
-    ap packed (drop-cons s (i - 1) 0 l) ∙ ap (λ n. get_or s (i - 1) 0 + 256 * packed (drop n s)) e
+-- the bytes from i on, one by one
+packed-from : (s : List ℕ) (i : ℕ) → packed (drop i s) ≡ get_or s i 0 + 256 * packed (drop (suc i) s)
+packed-from [] zero = refl
+packed-from [] (suc i) = refl
+packed-from (b ∷ s) zero = refl
+packed-from (b ∷ s) (suc i) = packed-from s i
+
+-- up to 8 bytes are packed as a word that is padded with 0
+pub packed-word : (bs word : List ℕ) → length bs ≤ 8 → ((i : ℕ) → get_or word i 0 ≡ get_or bs i 0) → from_le_bytes w64 word ≡ packed bs
+packed-word bs word l same =
+    let end : packed (drop 8 bs) ≡ 0 = ap packed (drop_all 8 bs l) in
+    omega (
+      arith,
+      end,
+      packed-from bs 0,
+      packed-from bs 1,
+      packed-from bs 2,
+      packed-from bs 3,
+      packed-from bs 4,
+      packed-from bs 5,
+      packed-from bs 6,
+      packed-from bs 7,
+      same 0,
+      same 1,
+      same 2,
+      same 3,
+      same 4,
+      same 5,
+      same 6,
+      same 7,
+    )
 
 -- what was packed comes out again
 pub unpacked-packed : (bs : List ℕ) → ((i : ℕ) → get_or bs i 0 < 256) → unpacked (length bs) (packed bs) ≡ bs
@@ -28,36 +52,13 @@ unpacked-packed (b ∷ bs) h =
     ∙ ap (λ v. b ∷ unpacked (length bs) v) high
     ∙ ap (λ l. b ∷ l) (unpacked-packed bs (λ i. h (suc i)))
 
-pub length-unpacked : (n v : ℕ) → length (unpacked n v) ≡ n
-length-unpacked zero v = refl
-length-unpacked (suc n) v = ap suc (length-unpacked n (v / 256))
-
--- a byte does not depend on how many are taken with it
-pub unpacked_same : (n m v i : ℕ) → i < n → i < m → get_or (unpacked n v) i 0 ≡ get_or (unpacked m v) i 0
-unpacked_same zero m v i h k = absurd (omega arith)
-unpacked_same (suc n) zero v i h k = absurd (omega arith)
-unpacked_same (suc n) (suc m) v zero h k = refl
-unpacked_same (suc n) (suc m) v (suc i) h k = unpacked_same n m (v / 256) i (omega arith) (omega arith)
-
 above : (v i : ℕ) → v < 2 ^ (8 * suc i) → v / 256 < 2 ^ (8 * i)
-above v i h =
-    let x : 8 * suc i ≡ 8 * i + 8 = omega arith in
-    let e : 2 ^ (8 * suc i) ≡ 2 ^ (8 * i) * 256 = ap (λ y. 2 ^ y) x ∙ pow-add 2 (8 * i) 8 in
-    div_below v 256 (2 ^ (8 * i)) (omega arith) (omega arith)
-
--- the bytes past a number's last are 0
-pub unpacked-past : (n v i : ℕ) → v < 2 ^ (8 * i) → get_or (unpacked n v) i 0 ≡ 0
-unpacked-past zero v i h = refl
-unpacked-past (suc n) v zero h = omega arith
-unpacked-past (suc n) v (suc i) h = unpacked-past n (v / 256) i (above v i h)
-
-pub unpacked-past_8 : (n v i : ℕ) → v < 2 ^ 64 → 8 ≤ i → get_or (unpacked n v) i 0 ≡ 0
-unpacked-past_8 n v i h k = let q : 64 ≤ 8 * i = omega arith in unpacked-past n v i (omega (arith, pow_mono q))
+above v i h = let e = byte_more i in div_below v 256 (2 ^ (8 * i)) (omega arith) (omega arith)
 
 -- n bytes make a number below 2 ^ (8 * n)
 pub packed_lt : (bs : List ℕ) → ((i : ℕ) → get_or bs i 0 < 256) → packed bs < 2 ^ (8 * length bs)
 packed_lt [] h = omega arith
-packed_lt (b ∷ bs) h = grown (length bs) (suc (length bs)) b (packed bs) (omega arith) (packed_lt bs (λ i. h (suc i))) (h 0)
+packed_lt (b ∷ bs) h = omega (arith, byte_more (length bs), packed_lt bs (λ i. h (suc i)), h 0)
 
 -- a number below 2 ^ (8 * n) is made of its lowest n bytes
 pub packed-unpacked : (n v : ℕ) → v < 2 ^ (8 * n) → packed (unpacked n v) ≡ v

@@ -75,13 +75,9 @@ fn pack(text: &[u8]) -> u64
     requires { length text.now ≤ 8 }
     ensures { result ≡ packed text.now }
 {
-    let mut n = 0u64;
-    let mut i = text.len();
-    while i > 0 {
-        i -= 1;
-        n = text[i] as u64 + 256 * n;
-    }
-    n
+    let mut bytes = [0; 8];
+    bytes[..text.len()].copy_from_slice(text);
+    u64::from_le_bytes(bytes)
 }
 
 impl Symbol {

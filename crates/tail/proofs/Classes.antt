@@ -2,47 +2,47 @@
 use Rattle.std.proofs.Common.{◌≡◌, ℕ, suc, ◌<◌, ◌≤◌, Bool, true, false, cond, ◌&&◌, eqb, leb, List, [], ◌∷◌, length, IsUtf8, sym, refl, ap, ◌∙◌, arith}
 use Rattle.std.specs.Char.{is_whitespace}
 use Rattle.std.specs.List.{prefix_len}
-use Rattle.std.specs.Str.{chars}
+use Rattle.std.specs.Str.{chars, trim_start}
 use Rattle.std.proofs.lemmas.Bool.{cond-true, cond-false, eq-eqb, ne_eqb, le-leb, lt-leb}
 use Rattle.tail.specs.Texts.{all, is, past, starts_with}
-use Rattle.tail.specs.Fences.{sign, may_follow}
+use Rattle.tail.specs.Fences.{sign, may_follow, fence}
 use Rattle.tail.specs.Scanning.{mark_class}
 use Rattle.tail.specs.declared.fences.Mark.{Mark}
 use Rattle.tail.specs.declared.fences.Mark.TheVariants.{Backtick, Tilde}
 use Rattle.tail.specs.declared.fences.Class.{Class}
 use Rattle.tail.specs.declared.fences.Class.TheVariants.{Pipe, Bare, Info, Other}
-use Rattle.tail.proofs.Spelling.{TrimsStart, trim_start_chars, same_empty}
+use Rattle.tail.proofs.Spelling.{trim_start_chars, same_empty}
 
 past-empty : (p : ℕ → Bool) (cs : List ℕ) → eqb (length (past p cs)) 0 ≡ all p cs
 past-empty p [] = refl
 past-empty p (c ∷ cs) = elim (p c) as (λ b. eqb (length (cond b (past p cs) (c ∷ cs))) 0 ≡ (b && all p cs)) [ true ↦ past-empty p cs | false ↦ ne_eqb (suc (length cs)) 0 (λ q. omega arith) ]
 
 -- a text is blank if `trim_start` leaves nothing
-pub blank_text : (bs r : List ℕ) → IsUtf8 bs → IsUtf8 r → TrimsStart bs r → eqb (length r) 0 ≡ all is_whitespace (chars bs)
-blank_text bs r u v h = same_empty r v ∙ (ap (λ l. eqb (length l) 0) (trim_start_chars bs r u v h) ∙ past-empty is_whitespace (chars bs))
+pub blank_text : (bs r : List ℕ) → IsUtf8 r → r ≡ trim_start bs → eqb (length r) 0 ≡ all is_whitespace (chars bs)
+blank_text bs r v h = same_empty r v ∙ (ap (λ l. eqb (length l) 0) (trim_start_chars bs r v h) ∙ past-empty is_whitespace (chars bs))
 
 module _ (m : Mark) (t b : List ℕ) (n : ℕ) (count : n ≡ prefix_len (is (sign m)) t) (rest : b ≡ past (is (sign m)) t) where
   abbrev class_by : ℕ → List ℕ → Class
-  class_by k c = cond (leb 3 k) (cond (all is_whitespace c) (Bare m k) (cond (may_follow m c) (Info m k) Other)) Other
+  class_by k c = cond (leb 3 k) (cond (all is_whitespace c) (Bare (fence m k)) (cond (may_follow m c) (Info (fence m k)) Other)) Other
 
   same_class : class_by n b ≡ mark_class m t
   same_class = ap (λ k. class_by k b) count ∙ ap (class_by (prefix_len (is (sign m)) t)) rest
 
   pub class_few : n < 3 → Other ≡ mark_class m t
-  class_few h = sym (cond-false (leb 3 n) (cond (all is_whitespace b) (Bare m n) (cond (may_follow m b) (Info m n) Other)) Other (lt-leb 3 n h)) ∙ same_class
+  class_few h = sym (cond-false (leb 3 n) (cond (all is_whitespace b) (Bare (fence m n)) (cond (may_follow m b) (Info (fence m n)) Other)) Other (lt-leb 3 n h)) ∙ same_class
 
   module _ (h : 3 ≤ n) where
-    class_many : cond (all is_whitespace b) (Bare m n) (cond (may_follow m b) (Info m n) Other) ≡ mark_class m t
-    class_many = sym (cond-true (leb 3 n) (cond (all is_whitespace b) (Bare m n) (cond (may_follow m b) (Info m n) Other)) Other (le-leb 3 n h)) ∙ same_class
+    class_many : cond (all is_whitespace b) (Bare (fence m n)) (cond (may_follow m b) (Info (fence m n)) Other) ≡ mark_class m t
+    class_many = sym (cond-true (leb 3 n) (cond (all is_whitespace b) (Bare (fence m n)) (cond (may_follow m b) (Info (fence m n)) Other)) Other (le-leb 3 n h)) ∙ same_class
 
-    pub class_bare : all is_whitespace b ≡ true → Bare m n ≡ mark_class m t
-    class_bare e = sym (cond-true (all is_whitespace b) (Bare m n) (cond (may_follow m b) (Info m n) Other) e) ∙ class_many
+    pub class_bare : all is_whitespace b ≡ true → Bare (fence m n) ≡ mark_class m t
+    class_bare e = sym (cond-true (all is_whitespace b) (Bare (fence m n)) (cond (may_follow m b) (Info (fence m n)) Other) e) ∙ class_many
 
-    pub class_info : all is_whitespace b ≡ false → may_follow m b ≡ true → Info m n ≡ mark_class m t
-    class_info e f = sym (cond-false (all is_whitespace b) (Bare m n) (cond (may_follow m b) (Info m n) Other) e ∙ cond-true (may_follow m b) (Info m n) Other f) ∙ class_many
+    pub class_info : all is_whitespace b ≡ false → may_follow m b ≡ true → Info (fence m n) ≡ mark_class m t
+    class_info e f = sym (cond-false (all is_whitespace b) (Bare (fence m n)) (cond (may_follow m b) (Info (fence m n)) Other) e ∙ cond-true (may_follow m b) (Info (fence m n)) Other f) ∙ class_many
 
     pub class_none : all is_whitespace b ≡ false → may_follow m b ≡ false → Other ≡ mark_class m t
-    class_none e f = sym (cond-false (all is_whitespace b) (Bare m n) (cond (may_follow m b) (Info m n) Other) e ∙ cond-false (may_follow m b) (Info m n) Other f) ∙ class_many
+    class_none e f = sym (cond-false (all is_whitespace b) (Bare (fence m n)) (cond (may_follow m b) (Info (fence m n)) Other) e ∙ cond-false (may_follow m b) (Info (fence m n)) Other f) ∙ class_many
 
 -- by what follows the leading white space of a line
 abbrev pub class_at : List ℕ → Class

@@ -1,15 +1,13 @@
 -- A text's first and its last character, as std's `strip_prefix` and `strip_suffix` see them.
-use Rattle.std.proofs.Common.{◌≡◌, ℕ, ◌+◌, ◌%◌, ◌<◌, Bool, true, false, eqb, List, [], ◌∷◌, ◌++◌, length, drop, Some, None, IsUtf8, Option, unwrap_or, sym, refl, ap, ◌∙◌, ⊎_elim, arith, lit<, Bor, MatchOption}
+use Rattle.std.proofs.Common.{◌≡◌, ℕ, ◌%◌, ◌<◌, Bool, true, false, eqb, List, [], ◌∷◌, ◌++◌, Some, None, IsUtf8, Option, unwrap_or, sym, refl, ap, ◌∙◌, ⊎_elim, arith, lit<, Bor, MatchOption}
 use lib.Utf8.{encode, encodes, low_scalar}
-use Rattle.std.specs.Str.Pattern.{FindsCharPrefix}
 use Rattle.std.specs.Str.{chars}
 use Rattle.std.proofs.lemmas.Bool.{cond-true, cond-false, cases_Bool, eq-eqb, ne_eqb, eqb-true, and_from, and_left, and_right}
-use Rattle.std.proofs.lemmas.Str.Pattern.{IsTrimResult, strip_prefix_char}
 use Rattle.std.proofs.lemmas.Str.{encodes-append, encodes-chars, chars_past_char, encode_ascii}
 use Rattle.std.proofs.lemmas.List.{append-nil}
 use Rattle.tail.specs.Entries.{ends_in_pipe, without_last_pipe}
-use Rattle.tail.specs.Texts.{is, at_end, trimmed, starts_with, ends_with, front, without_first}
-use Rattle.tail.proofs.Spelling.{decodes_push, trim_chars}
+use Rattle.tail.specs.Texts.{is, at_end, starts_with, ends_with, front, without_first, without_last}
+use Rattle.tail.proofs.Spelling.{decodes_push}
 
 pub ends_with-push : (d : ℕ) (cs : List ℕ) → ends_with d (cs ++ (d ∷ [])) ≡ true
 ends_with-push d [] = eq-eqb d d refl
@@ -51,13 +49,11 @@ module _ (d : ℕ) (low : d < 128) where
   chars_not_last bs u never = ⊎_elim (λ e. absurd (never (encodes (front (chars bs)))
       (sym (encodes-chars bs u) ∙ (ap encodes (front-append d (chars bs) e) ∙ (encodes-append (front (chars bs)) (d ∷ []) ∙ ap (λ l. encodes (front (chars bs)) ++ l) (append-nil (encode d) ∙ encode_ascii d low)))))) (λ e. e) (cases_Bool (ends_with d (chars bs)))
 
--- the clause of `strip_prefix` and `strip_suffix`, as the shelf's lemmas take them
-abbrev pub StripsFirst : ℕ → List ℕ → Option (Bor (List ℕ)) → Type 0
-StripsFirst d bs r = MatchOption r (FindsCharPrefix d bs None) (λ x. (n : ℕ) × FindsCharPrefix d bs (Some n) × (x.now ≡ drop n bs) × (length x.now + n ≡ length bs))
-
-pub opened_chars : (line : List ℕ) (t o : Bor (List ℕ)) (r : Option (Bor (List ℕ))) → IsUtf8 line → IsUtf8 t.now → IsTrimResult line t.now → StripsFirst 124 t.now r → o ≡ unwrap_or r t → chars o.now ≡ without_first 124 (trimmed (chars line))
-opened_chars line t o r u v h s e =
-    ap (λ (x : Bor (List ℕ)). chars x.now) e ∙ (prefix_or 124 (lit< tt) t r v (strip_prefix_char 124 t.now r s (lit< tt)) ∙ ap (without_first 124) (trim_chars line t.now u v h))
+-- `strip_suffix` with `unwrap_or`
+pub suffix_or : (d : ℕ) → d < 128 → (t : Bor (List ℕ)) (r : Option (Bor (List ℕ))) → IsUtf8 t.now → MatchOption r ((f : List ℕ) → t.now ≡ f ++ (d ∷ []) → ⊥) (λ x. t.now ≡ x.now ++ (d ∷ [])) → chars (unwrap_or r t).now ≡ without_last d (chars t.now)
+suffix_or d low t None u h = sym (cond-false (ends_with d (chars t.now)) (front (chars t.now)) (chars t.now) (chars_not_last d low t.now u h))
+suffix_or d low t (Some x) u h =
+    sym (ap (without_last d) (chars_last d low t.now x.now u h) ∙ (cond-true (ends_with d (chars x.now ++ (d ∷ []))) (front (chars x.now ++ (d ∷ []))) (chars x.now ++ (d ∷ [])) (ends_with-push d (chars x.now)) ∙ front-push d (chars x.now)))
 
 -- a pipe at the end that is decoration, one that is not, and none
 module _ (o : List ℕ) (u : IsUtf8 o) where

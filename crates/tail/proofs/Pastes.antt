@@ -1,11 +1,10 @@
 -- Writing one text behind another.
-use Rattle.std.proofs.Common.{◌≡◌, ℕ, zero, suc, ◌+◌, ◌*◌, ◌<◌, ◌≤◌, min, Bool, true, false, cond, List, [], ◌∷◌, ◌++◌, length, take, drop, set, sym, refl, ap, ◌∙◌, ⊎_elim, append_assoc, add-one, arith}
+use Rattle.std.proofs.Common.{◌≡◌, ℕ, zero, suc, ◌+◌, ◌*◌, ◌<◌, ◌≤◌, Bool, true, false, cond, List, [], ◌∷◌, ◌++◌, length, drop, set, sym, refl, ap, ◌∙◌, append_assoc, add-one, arith}
 use borrow.Rule.Slice.PartMut.{put_mid}
 use lib.Seq.{paste}
 use Rattle.std.proofs.lemmas.List.Edits.{paste_none, paste_more, paste-paste, paste_all, length-paste}
 use Rattle.std.proofs.lemmas.Slice.{put_mid-paste}
-use Rattle.std.proofs.lemmas.List.{length-append, length-take-le, take_all}
-use Rattle.std.proofs.lemmas.Bool.{cases_lt}
+use Rattle.std.proofs.lemmas.List.{length-append}
 use Rattle.tail.specs.Entries.{dashes, delimiter_row}
 use Rattle.tail.specs.Patches.{patched, size}
 use Rattle.tail.specs.declared.patch.Patch.{Patch}
@@ -51,45 +50,34 @@ module _ (out : List ℕ) where
   pub front-all : (s : List ℕ) (n : ℕ) → n ≡ length s → paste out 0 s n ≡ s ++ drop (length s) out
   front-all s n e = paste_all out 0 s n e ∙ ap (λ k. s ++ drop k out) (let z : 0 + n ≡ length s = omega arith in z)
 
-  pub front_copied : (src y : List ℕ) (k j : ℕ) → k ≤ length src → j ≡ k → y ≡ take k src → put_mid 0 j out y ≡ paste out 0 (take k src) k
-  front_copied src y k j h e f = put_mid-paste 0 j out y (take k src) k f (sym e) (sym (length-take-le k src h))
-
   pub length_pasted : (s : List ℕ) (n : ℕ) → n ≡ length s → n ≤ length out → length (paste out 0 s n) ≡ length out
   length_pasted s n e h = length-paste out 0 s n (omega arith) (omega arith)
 
--- so many bytes of the source, a line feed or none, and a row
-module _ (out src y : List ℕ) (k j n : ℕ) (within : k ≤ length src) (same : j ≡ k) (copied : y ≡ take k src) where
-  pub written-plain : (x z : List ℕ) (at : ℕ) → x ≡ put_mid 0 j out y → at ≡ k → z ≡ paste x at (delimiter_row n) (1 + 4 * n) → z ≡ (take k src ++ delimiter_row n) ++ drop (length (take k src ++ delimiter_row n)) out
+-- a text, a line feed or none, and a row
+module _ (out s : List ℕ) (n : ℕ) where
+  written-front : s ++ drop (length s) out ≡ paste out 0 s (length s)
+  written-front = sym (front-all out s (length s) refl)
+
+  pub written-plain : (x z : List ℕ) (at : ℕ) → x ≡ s ++ drop (length s) out → at ≡ length s → z ≡ paste x at (delimiter_row n) (1 + 4 * n) → z ≡ (s ++ delimiter_row n) ++ drop (length (s ++ delimiter_row n)) out
   written-plain x z at e a f =
       let row = delimiter_row n in
-      let s = take k src in
-      let l = length-take-le k src within in
       f ∙ (ap (λ i. paste x i row (1 + 4 * n)) a
-      ∙ (front_more out x s row k (1 + 4 * n) (e ∙ front_copied out src y k j within same copied) (sym l) (sym (length_row n))
-      ∙ front-all out (s ++ row) (k + (1 + 4 * n)) (omega (arith, l, length_row n, length-append s row))))
+      ∙ (front_more out x s row (length s) (1 + 4 * n) (e ∙ written-front) refl (sym (length_row n))
+      ∙ front-all out (s ++ row) (length s + (1 + 4 * n)) (omega (arith, length_row n, length-append s row))))
 
-  pub written_fed : (x z : List ℕ) (at : ℕ) → k < length out → x ≡ set (put_mid 0 j out y) k 10 → at ≡ k + 1 → z ≡ paste x at (delimiter_row n) (1 + 4 * n) → z ≡ (take k src ++ (10 ∷ delimiter_row n)) ++ drop (length (take k src ++ (10 ∷ delimiter_row n))) out
+  pub written_fed : (x z : List ℕ) (at : ℕ) → length s < length out → x ≡ set (s ++ drop (length s) out) (length s) 10 → at ≡ length s + 1 → z ≡ paste x at (delimiter_row n) (1 + 4 * n) → z ≡ (s ++ (10 ∷ delimiter_row n)) ++ drop (length (s ++ (10 ∷ delimiter_row n))) out
   written_fed x z at room e a f =
       let row = delimiter_row n in
-      let s = take k src in
-      let l = length-take-le k src within in
-      let w = front_copied out src y k j within same copied in
-      let p = ap (λ q. set q k 10) w ∙ (paste_one (paste out 0 s k) k 10 (omega (arith, length_pasted out s k (sym l) (omega arith))) ∙ front_more out (paste out 0 s k) s (10 ∷ []) k 1 refl (sym l) refl) in
+      let k = length s in
+      let p = ap (λ q. set q k 10) written-front ∙ (paste_one (paste out 0 s k) k 10 (omega (arith, length_pasted out s k refl (omega arith))) ∙ front_more out (paste out 0 s k) s (10 ∷ []) k 1 refl refl refl) in
       f ∙ (ap (λ i. paste x i row (1 + 4 * n)) a
-      ∙ (front_more out x (s ++ (10 ∷ [])) row (k + 1) (1 + 4 * n) (e ∙ p) (omega (arith, l, length-append s (10 ∷ []))) (sym (length_row n))
+      ∙ (front_more out x (s ++ (10 ∷ [])) row (k + 1) (1 + 4 * n) (e ∙ p) (omega (arith, length-append s (10 ∷ []))) (sym (length_row n))
       ∙ (ap (λ q. paste out 0 q (k + 1 + (1 + 4 * n))) (append_assoc s (10 ∷ []) row)
-      ∙ front-all out (s ++ (10 ∷ row)) (k + 1 + (1 + 4 * n)) (omega (arith, l, length_row n, length-append s (10 ∷ row))))))
+      ∙ front-all out (s ++ (10 ∷ row)) (k + 1 + (1 + 4 * n)) (omega (arith, length_row n, length-append s (10 ∷ row))))))
 
 length_by : (s row : List ℕ) (k m : ℕ) (b : Bool) → length s ≡ k → length row ≡ m → length (s ++ (cond b (10 ∷ []) [] ++ row)) ≡ k + cond b 1 0 + m
 length_by s row k m true h e = omega (arith, length-append s (10 ∷ row))
 length_by s row k m false h e = omega (arith, length-append s row)
 
-pub length-patched : (p : Patch) (bs : List ℕ) → p.kept ≤ length bs → length (patched p bs) ≡ size p
-length-patched p bs h = length_by (take p.kept bs) (delimiter_row p.cols) p.kept (1 + 4 * p.cols) p.line_feed (length-take-le p.kept bs h) (length_row p.cols)
-
--- as much of a list as there is
-pub take_least : (n m : ℕ) (l : List ℕ) → m ≡ min n (length l) → take m l ≡ take n l
-take_least n m l e = ⊎_elim
-    (λ (h : n < length l). ap (λ k. take k l) (let z : m ≡ n = omega arith in z))
-    (λ (h : length l ≤ n). take_all m l (omega arith) ∙ sym (take_all n l h))
-    (cases_lt n (length l))
+pub length-patched : (p : Patch) → length (patched p) ≡ size p
+length-patched p = length_by p.kept.now (delimiter_row p.cols) (length p.kept.now) (1 + 4 * p.cols) p.line_feed refl (length_row p.cols)

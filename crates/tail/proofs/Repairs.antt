@@ -1,20 +1,20 @@
 -- What a repair of characters is in bytes.
-use Rattle.std.proofs.Common.{◌≡◌, ℕ, zero, suc, ◌+◌, ◌-◌, ◌≤◌, Bool, true, false, cond, not, ◌&&◌, eqb, List, [], ◌∷◌, ◌++◌, length, take, drop, Some, None, IsUtf8, Decides, MatchBool, Option, unwrap_or, sym, refl, ap, ◌∙◌, true≢false, append_assoc, arith, lit<, Bor, MatchOption}
+use Rattle.std.proofs.Common.{◌≡◌, ℕ, zero, suc, ◌+◌, ◌-◌, ◌≤◌, Bool, true, false, cond, not, ◌&&◌, eqb, List, [], ◌∷◌, ◌++◌, length, take, drop, Some, None, IsUtf8, Decides, MatchBool, Option, sym, refl, ap, ◌∙◌, true≢false, append_assoc, arith, lit<}
 use lib.Utf8.{encode, encodes}
 use Rattle.std.specs.Str.Pattern.{RFindsChar, FindsCharSuffix}
 use Rattle.std.specs.Str.{NonePass, IsCharBoundary, chars, bytes_eq}
 use Rattle.std.proofs.lemmas.Slice.Eq.{bytes_eq-Decides}
-use Rattle.std.proofs.lemmas.List.{append-nil, take-append-drop, take_at, take_all, length-append, length-take-le}
+use Rattle.std.proofs.lemmas.List.{append-nil, take-append-drop, take_at, length-append, length-take-le}
 use Rattle.std.proofs.lemmas.Str.Pattern.{ends_char}
 use Rattle.std.proofs.lemmas.Bool.{cond-true, cond-false, not_from_false, and_from}
 use Rattle.std.proofs.lemmas.Str.{encodes-append, encodes-chars, chars_from_encodes, encode_ascii, IsUtf8-take, len_utf8_ascii}
 use Rattle.std.proofs.lemmas.Bool.Decides.{same_from_decides, Decides-like}
-use Rattle.tail.specs.Texts.{all, is, ends_with, front, without_last}
+use Rattle.tail.specs.Texts.{all, is, ends_with}
 use Rattle.tail.specs.Entries.{dashes, delimiter_row, cell_count, complete, unfinished}
 use Rattle.tail.specs.Cook.{lone_pipe, line_end, appended, replaced, without_last_line, repaired_by}
 use Rattle.tail.proofs.Spelling.{decodes_cut_back}
 use Rattle.tail.proofs.Trims.{before_end, before-all}
-use Rattle.tail.proofs.Ends.{chars_last, chars_not_last, ends_with-push, front-push}
+use Rattle.tail.proofs.Ends.{chars_last, chars_not_last, ends_with-push}
 
 -- a text that is one pipe
 pub lone_by : (t : List ℕ) (r : Bool) → IsUtf8 t → Decides r (t ≡ 124 ∷ []) → r ≡ bytes_eq (chars t) (124 ∷ [])
@@ -45,9 +45,6 @@ module _ (bs : List ℕ) (u : IsUtf8 bs) where
         let e : bs ≡ (take i bs ++ (10 ∷ [])) ++ drop j bs = sym (take-append-drop i bs) ∙ (ap (λ l. take i bs ++ l) (h.1.split ∙ ap (λ l. l ++ drop j bs) (encode_ascii 10 (lit< tt))) ∙ sym (append_assoc (take i bs) (10 ∷ []) (drop j bs))) in
         ap (take j) e ∙ take_at (take i bs ++ (10 ∷ [])) (drop j bs) j (omega (arith, length-append (take i bs) (10 ∷ []), length-take-le i bs b.0, next_place))
 
-    pub last_place : i + 1 ≤ length bs
-    last_place = omega (arith, next_place, c.0)
-
     pub last_lines : take (i + 1) bs ≡ encodes (without_last_line (chars bs))
     last_lines =
         let t = take j bs in
@@ -66,13 +63,6 @@ ended_by bs false u h = sym (chars_not_last 10 (lit< tt) bs u (λ f e. true≢fa
 pub ended_chars : (bs : List ℕ) (r : Bool) → IsUtf8 bs → MatchBool r ((n : ℕ) × FindsCharSuffix 10 bs (Some n) × (n ≤ length bs) × IsCharBoundary bs (length bs - n)) (FindsCharSuffix 10 bs None) → r ≡ ends_with 10 (chars bs)
 ended_chars bs r u h = ended_by bs r u (ends_char 10 bs r h (lit< tt))
 
--- `strip_suffix` with `unwrap_or`
-pub body_chars : (t : Bor (List ℕ)) (r : Option (Bor (List ℕ))) → IsUtf8 t.now → MatchOption r ((f : List ℕ) → t.now ≡ f ++ (10 ∷ []) → ⊥) (λ x. t.now ≡ x.now ++ (10 ∷ [])) → chars (unwrap_or r t).now ≡ without_last 10 (chars t.now)
-body_chars t None u h = sym (cond-false (ends_with 10 (chars t.now)) (front (chars t.now)) (chars t.now) (chars_not_last 10 (lit< tt) t.now u h))
-body_chars t (Some x) u h =
-    let d = chars_last 10 (lit< tt) t.now x.now u h in
-    sym (ap (without_last 10) d ∙ (cond-true (ends_with 10 (chars x.now ++ (10 ∷ []))) (front (chars x.now ++ (10 ∷ []))) (chars x.now ++ (10 ∷ [])) (ends_with-push 10 (chars x.now)) ∙ front-push 10 (chars x.now)))
-
 -- a delimiter row is ASCII
 encodes_dashes : (n : ℕ) → encodes (dashes n) ≡ dashes n
 unfolding encode
@@ -89,17 +79,17 @@ encodes_end true = refl
 encodes_end false = refl
 
 -- the repaired text in bytes
-pub bytes_appended : (bs : List ℕ) (b : Bool) (k n : ℕ) → IsUtf8 bs → b ≡ ends_with 10 (chars bs) → k ≡ length bs → take k bs ++ (cond (not b) (10 ∷ []) [] ++ delimiter_row n) ≡ encodes (appended n (chars bs))
-bytes_appended bs b k n u e l =
+pub bytes_appended : (bs : List ℕ) (b : Bool) (n : ℕ) → IsUtf8 bs → b ≡ ends_with 10 (chars bs) → bs ++ (cond (not b) (10 ∷ []) [] ++ delimiter_row n) ≡ encodes (appended n (chars bs))
+bytes_appended bs b n u e =
     let cs = chars bs in
     sym (encodes-append cs (line_end cs ++ delimiter_row n) ∙ (ap (λ x. encodes cs ++ x) (encodes-append (line_end cs) (delimiter_row n))
-    ∙ (ap (λ x. x ++ (encodes (line_end cs) ++ encodes (delimiter_row n))) (encodes-chars bs u ∙ sym (take_all k bs (omega arith)))
-    ∙ (ap (λ x. take k bs ++ (x ++ encodes (delimiter_row n))) (encodes_end (ends_with 10 cs) ∙ ap (λ x. cond (not x) (10 ∷ []) []) (sym e))
-    ∙ ap (λ x. take k bs ++ (cond (not b) (10 ∷ []) [] ++ x)) (encodes_row n)))))
+    ∙ (ap (λ x. x ++ (encodes (line_end cs) ++ encodes (delimiter_row n))) (encodes-chars bs u)
+    ∙ (ap (λ x. bs ++ (x ++ encodes (delimiter_row n))) (encodes_end (ends_with 10 cs) ∙ ap (λ x. cond (not x) (10 ∷ []) []) (sym e))
+    ∙ ap (λ x. bs ++ (cond (not b) (10 ∷ []) [] ++ x)) (encodes_row n)))))
 
-pub bytes_replaced : (bs : List ℕ) (k n : ℕ) → take k bs ≡ encodes (without_last_line (chars bs)) → take k bs ++ delimiter_row n ≡ encodes (replaced n (chars bs))
-bytes_replaced bs k n e =
-    sym (encodes-append (without_last_line (chars bs)) (delimiter_row n) ∙ (ap (λ x. x ++ encodes (delimiter_row n)) (sym e) ∙ ap (λ x. take k bs ++ x) (encodes_row n)))
+pub bytes_replaced : (bs kept : List ℕ) (n : ℕ) → kept ≡ encodes (without_last_line (chars bs)) → kept ++ delimiter_row n ≡ encodes (replaced n (chars bs))
+bytes_replaced bs kept n e =
+    sym (encodes-append (without_last_line (chars bs)) (delimiter_row n) ∙ (ap (λ x. x ++ encodes (delimiter_row n)) (sym e) ∙ ap (λ x. kept ++ x) (encodes_row n)))
 
 -- three lines or more stay
 pub three_stay : (ls : List (List ℕ)) (cs : List ℕ) → 3 ≤ length ls → repaired_by ls cs ≡ None

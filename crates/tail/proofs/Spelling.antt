@@ -1,15 +1,13 @@
 -- What std's text functions say of the characters of a text.
-use Rattle.std.proofs.Common.{◌≡◌, ℕ, zero, suc, ◌+◌, ◌<◌, ◌≤◌, Bool, true, false, eqb, List, [], ◌∷◌, ◌++◌, length, take, drop, Some, None, IsUtf8, MatchBool, sym, refl, ap, ◌∙◌, subst, append_assoc, arith}
-use lib.Utf8.{scalar, encode, encodes}
-use Rattle.std.specs.Char.{is_whitespace, is_not_whitespace}
-use Rattle.std.specs.Str.{NonePass, NoCharPasses, EmptyOrStartsWithPassing, EmptyOrEndsWithPassing, IsCharBoundary, chars}
+use Rattle.std.proofs.Common.{◌≡◌, ℕ, suc, ◌+◌, ◌<◌, ◌≤◌, Bool, true, false, cond, ◌&&◌, eqb, List, [], ◌∷◌, ◌++◌, length, take, drop, Some, None, IsUtf8, MatchBool, sym, refl, ap, ◌∙◌, subst, append_assoc, arith}
+use lib.Utf8.{scalar, scalars, encode, encodes}
+use Rattle.std.specs.Char.{is_whitespace}
+use Rattle.std.specs.Str.{NonePass, IsCharBoundary, chars, skip_leading_whitespace, drop_trailing_whitespace, trim_start, trim_end, trim}
 use Rattle.std.proofs.lemmas.List.{append-nil, take-append-drop, nil_from_length, take_at, length-append}
-use Rattle.std.proofs.lemmas.Str.{encodes-append, chars_from_encodes, encodes-chars, chars_past_char, chars-nil, IsCharBoundary-at_seam, IsUtf8-take, IsUtf8-drop, IsUtf8-past_char, IsUtf8-encode, encode_ascii, length-encode, len_utf8_bounds, length-le-encodes}
-use Rattle.std.proofs.lemmas.Bool.{not-true, ne_eqb, eq-eqb, or_from, or_left, or_right}
+use Rattle.std.proofs.lemmas.Str.{encodes-append, chars_from_encodes, encodes-chars, scalars-chars, chars_past_char, chars-nil, IsCharBoundary-at_seam, IsUtf8-take, IsUtf8-drop, IsUtf8-past_char, IsUtf8-encode, encode_ascii, length-encode, len_utf8_bounds, length-le-encodes}
+use Rattle.std.proofs.lemmas.Bool.{ne_eqb, eq-eqb, or_from, or_left, or_right, and_parts, cond_both}
 use Rattle.std.specs.Str.Pattern.{FindsChar}
-use Rattle.std.proofs.lemmas.Str.Pattern.{IsTrimResult}
-use Rattle.tail.proofs.Trims.{past-front, past_stop, all_from_fails, before_end}
-use Rattle.tail.specs.Texts.{any, is, past, before, trimmed}
+use Rattle.tail.specs.Texts.{all, any, is, past, before, trimmed}
 
 -- a text that was cut in two: the characters of the front, written out as cs, and those of the rest
 pub decodes_cut : (bs xs ys cs : List ℕ) → IsUtf8 bs → IsUtf8 ys → bs ≡ xs ++ ys → encodes cs ≡ xs → chars bs ≡ cs ++ chars ys
@@ -28,50 +26,37 @@ utf8_front bs xs c u s e = subst IsUtf8 (ap (take (length xs)) e ∙ take_at xs 
 pub decodes_push : (bs xs : List ℕ) (c : ℕ) → IsUtf8 bs → scalar c ≡ true → bs ≡ xs ++ encode c → chars bs ≡ chars xs ++ (c ∷ [])
 decodes_push bs xs c u s e = decodes_cut_back bs xs (encode c) (c ∷ []) u (utf8_front bs xs c u s e) e (append-nil (encode c))
 
--- a text that begins with a character that is not white keeps its front
-opens-past : (bs rest : List ℕ) → IsUtf8 bs → EmptyOrStartsWithPassing is_not_whitespace bs rest → (n : ℕ) → length bs ≡ n → past is_whitespace (chars bs) ≡ chars bs
-opens-past bs rest u o zero e = ap (λ l. past is_whitespace (chars l)) (nil_from_length bs e) ∙ (ap (past is_whitespace) chars-nil ∙ sym (ap chars (nil_from_length bs e) ∙ chars-nil))
-opens-past bs rest u o (suc n) e =
-    let w = o (omega arith) in
-    let d = chars_past_char bs rest w.0 u w.2 in
-    ap (past is_whitespace) d ∙ (past_stop is_whitespace w.0 (chars rest) (not-true (is_whitespace w.0) w.1) ∙ sym d)
+-- what `trim_start` leaves
+past-skip : (cs : List ℕ) → skip_leading_whitespace cs ≡ past is_whitespace cs
+past-skip [] = refl
+past-skip (c ∷ cs) = ap (λ l. cond (is_whitespace c) l (c ∷ cs)) (past-skip cs)
 
--- the clause of `trim_start`
-abbrev pub TrimsStart : List ℕ → List ℕ → Type 0
-TrimsStart bs r = (n : ℕ) × (r ≡ drop n bs) × NoCharPasses is_not_whitespace (take n bs) × ((rest : List ℕ) × EmptyOrStartsWithPassing is_not_whitespace r rest) × (length r ≤ length bs)
+pub trim_start_chars : (bs r : List ℕ) → IsUtf8 r → r ≡ trim_start bs → chars r ≡ past is_whitespace (chars bs)
+unfolding trim_start
+trim_start_chars bs r v e = sym (chars_from_encodes (skip_leading_whitespace (chars bs)) r v (sym e)) ∙ past-skip (chars bs)
 
-pub trim_start_chars : (bs r : List ℕ) → IsUtf8 bs → IsUtf8 r → TrimsStart bs r → chars r ≡ past is_whitespace (chars bs)
-trim_start_chars bs r u v h =
-    let cut : bs ≡ take h.0 bs ++ r = sym (take-append-drop h.0 bs) ∙ ap (λ l. take h.0 bs ++ l) (sym h.1) in
-    let d = decodes_cut bs (take h.0 bs) r h.2.0 u v cut h.2.1 in
-    sym (ap (past is_whitespace) d ∙ (past-front is_whitespace h.2.0 (chars r) h.2.2 ∙ opens-past r h.3.0 v h.3.1 (length r) refl))
+-- what `trim` leaves
+before-empty : (p : ℕ → Bool) (cs : List ℕ) → eqb (length (before p cs)) 0 ≡ all p cs
+before-empty p [] = refl
+before-empty p (c ∷ cs) = elim (p c && all p cs) as (λ b. eqb (length (cond b [] (c ∷ before p cs))) 0 ≡ b) [ true ↦ refl | false ↦ ne_eqb (suc (length (before p cs))) 0 (λ q. omega arith) ]
 
--- white space, a text that begins and ends with no white space, and white space again
-trim_middle : (xs ys bs rest : List ℕ) → IsUtf8 bs → NonePass is_not_whitespace xs → NonePass is_not_whitespace ys → EmptyOrStartsWithPassing is_not_whitespace bs rest → EmptyOrEndsWithPassing is_not_whitespace bs → (n : ℕ) → length bs ≡ n → trimmed (xs ++ (chars bs ++ ys)) ≡ chars bs
-trim_middle xs ys bs rest u f g o s zero e =
-    let d = ap chars (nil_from_length bs e) ∙ chars-nil in
-    ap (before is_whitespace) (past-front is_whitespace xs (chars bs ++ ys) f ∙ (ap (λ l. past is_whitespace (l ++ ys)) d ∙ (sym (ap (past is_whitespace) (append-nil ys)) ∙ past-front is_whitespace ys [] g))) ∙ sym d
-trim_middle xs ys bs rest u f g o s (suc n) e =
-    let w = o (omega arith) in
-    let z = s (omega arith) in
-    let d = chars_past_char bs rest w.0 u w.2 in
-    let b = decodes_push bs z.1 z.0 u z.4 z.3 in
-    let kept = past-front is_whitespace xs (chars bs ++ ys) f ∙ (ap (λ l. past is_whitespace (l ++ ys)) d ∙ (past_stop is_whitespace w.0 (chars rest ++ ys) (not-true (is_whitespace w.0) w.1) ∙ sym (ap (λ l. l ++ ys) d))) in
-    ap (before is_whitespace) (kept ∙ (ap (λ l. l ++ ys) b ∙ append_assoc (chars z.1) (z.0 ∷ []) ys))
-    ∙ (before_end is_whitespace (chars z.1) ys z.0 (not-true (is_whitespace z.0) z.2) (all_from_fails is_whitespace ys g) ∙ sym b)
+before-drop : (cs : List ℕ) → drop_trailing_whitespace cs ≡ before is_whitespace cs
+before-drop [] = refl
+before-drop (c ∷ cs) = ap (λ l. cond (is_whitespace c && eqb (length l) 0) [] (c ∷ l)) (before-drop cs) ∙ ap (λ b. cond (is_whitespace c && b) [] (c ∷ before is_whitespace cs)) (before-empty is_whitespace cs)
 
--- the clause of `trim`
-pub trim_chars : (bs t : List ℕ) → IsUtf8 bs → IsUtf8 t → IsTrimResult bs t → chars t ≡ trimmed (chars bs)
-trim_chars bs t u v h =
-    let m = h.0 in
-    let n = h.1 in
-    let xs = h.3.0 in
-    let ys = h.4.0 in
-    let whole : encodes (xs ++ (chars t ++ ys)) ≡ bs =
-    encodes-append xs (chars t ++ ys) ∙ (ap (λ l. encodes xs ++ l) (encodes-append (chars t) ys)
-    ∙ (ap (λ l. l ++ (encodes (chars t) ++ encodes ys)) h.3.1 ∙ (ap (λ l. take m bs ++ (l ++ encodes ys)) (encodes-chars t v ∙ h.2)
-    ∙ (ap (λ l. take m bs ++ (take n (drop m bs) ++ l)) h.4.1 ∙ (ap (λ l. take m bs ++ l) (take-append-drop n (drop m bs)) ∙ take-append-drop m bs))))) in
-    sym (ap trimmed (sym (chars_from_encodes (xs ++ (chars t ++ ys)) bs u whole)) ∙ trim_middle xs ys t h.5.0 v h.3.2 h.4.2 h.5.1 h.6 (length t) refl)
+scalars-skip : (cs : List ℕ) → scalars cs ≡ true → scalars (skip_leading_whitespace cs) ≡ true
+scalars-skip [] e = refl
+scalars-skip (c ∷ cs) e = cond_both (is_whitespace c) (skip_leading_whitespace cs) (c ∷ cs) (λ l. scalars l ≡ true) (λ _. scalars-skip cs (and_parts (scalar c) (scalars cs) e).1) (λ _. e)
+
+utf8_skip : (bs : List ℕ) → IsUtf8 bs → IsUtf8 (trim_start bs)
+unfolding trim_start
+utf8_skip bs u = (skip_leading_whitespace (chars bs), (scalars-skip (chars bs) (scalars-chars bs u), refl))
+
+pub trim_chars : (bs t : List ℕ) → IsUtf8 bs → IsUtf8 t → t ≡ trim bs → chars t ≡ trimmed (chars bs)
+unfolding trim_end
+trim_chars bs t u v e =
+    sym (chars_from_encodes (drop_trailing_whitespace (chars (trim_start bs))) t v (sym e))
+    ∙ (before-drop (chars (trim_start bs)) ∙ ap (before is_whitespace) (trim_start_chars bs (trim_start bs) (utf8_skip bs u) refl))
 
 -- one character of a walk: s is what was left, and t what is left behind the character c
 pub step_chars : (s t : List ℕ) (c : ℕ) → IsUtf8 s → s ≡ encode c ++ t → chars s ≡ c ∷ chars t

@@ -6,8 +6,6 @@ use Rattle.std.proofs.lemmas.Slice.Eq.{bytes_eq-Decides}
 use Rattle.std.proofs.lemmas.Bool.{cond-true, cond-false, cases_Bool, cases_lt, and_from, and_parts, le-leb, lt-leb}
 use Rattle.std.proofs.lemmas.Str.{encodes-chars, scalars-chars}
 use Rattle.tail.specs.Cook.{is_utf8, valid_up_to, valid_length, repaired_bytes, answered_for, answered, written_for, written, cooked}
-use Rattle.tail.specs.declared.Cooked.{Cooked}
-use Rattle.tail.specs.declared.Cooked.TheVariants.{Same, Changed}
 
 utf8_yes : (bs : List ℕ) → IsUtf8 bs → is_utf8 bs ≡ true
 utf8_yes bs u = and_from (scalars (chars bs)) (bytes_eq (encodes (chars bs)) bs) (scalars-chars bs u) ((bytes_eq-Decides (encodes (chars bs)) bs).1 (encodes-chars bs u))
@@ -32,7 +30,7 @@ valid_from bs n v (suc k) h = ⊎_elim
 
 -- a source that is not UTF-8
 module _ (bs : List ℕ) (room : ℕ) where
-  pub invalid_answer : (n : ℕ) → (IsUtf8 bs → ⊥) → IsValidUpTo bs n → ◌≡◌ {A = Result Cooked (ℕ × ℕ)} (Err (3, n)) (answered bs room)
+  pub invalid_answer : (n : ℕ) → (IsUtf8 bs → ⊥) → IsValidUpTo bs n → ◌≡◌ {A = Result (Option ℕ) (ℕ × ℕ)} (Err (3, n)) (answered bs room)
   invalid_answer n never v =
       ap (λ k. Err (3, k)) (valid_from bs n v (length bs) (omega (arith, v.short)))
       ∙ sym (cond-false (is_utf8 bs) (answered_for (repaired_bytes bs) room) (Err (3, valid_length bs)) (utf8_no bs never))
@@ -49,7 +47,7 @@ module _ (bs : List ℕ) (room : ℕ) where
 
   -- nothing changed
   module _ (u : IsUtf8 bs) (r : None ≡ repaired_bytes bs) where
-    pub same_answer : ◌≡◌ {A = Result Cooked (ℕ × ℕ)} (Ok Same) (answered bs room)
+    pub same_answer : ◌≡◌ {A = Result (Option ℕ) (ℕ × ℕ)} (Ok None) (answered bs room)
     same_answer = valid_answer u None r
 
     pub same_output : (out : List ℕ) → out ≡ written bs out
@@ -60,16 +58,16 @@ module _ (bs : List ℕ) (room : ℕ) where
 
   -- something changed
   module _ (u : IsUtf8 bs) (ts : List ℕ) (r : Some ts ≡ repaired_bytes bs) (n : ℕ) (whole : n ≡ length ts) where
-    pub short_answer : room < n → ◌≡◌ {A = Result Cooked (ℕ × ℕ)} (Err (4, n)) (answered bs room)
+    pub short_answer : room < n → ◌≡◌ {A = Result (Option ℕ) (ℕ × ℕ)} (Err (4, n)) (answered bs room)
     short_answer h =
-        ap (λ k. Err (4, k)) whole ∙ (sym (cond-false {A = Result Cooked (ℕ × ℕ)} (leb (length ts) room) (Ok (Changed (length ts))) (Err (4, length ts)) (lt-leb (length ts) room (omega arith))) ∙ valid_answer u (Some ts) r)
+        ap (λ k. Err (4, k)) whole ∙ (sym (cond-false {A = Result (Option ℕ) (ℕ × ℕ)} (leb (length ts) room) (Ok (Some (length ts))) (Err (4, length ts)) (lt-leb (length ts) room (omega arith))) ∙ valid_answer u (Some ts) r)
 
     pub short_output : room < n → (out : List ℕ) → length out ≡ room → out ≡ written bs out
     short_output h out e = sym (cond-false (leb (length ts) (length out)) (ts ++ drop (length ts) out) out (lt-leb (length ts) (length out) (omega arith))) ∙ valid_output u (Some ts) r out
 
-    pub changed_answer : n ≤ room → ◌≡◌ {A = Result Cooked (ℕ × ℕ)} (Ok (Changed n)) (answered bs room)
+    pub changed_answer : n ≤ room → ◌≡◌ {A = Result (Option ℕ) (ℕ × ℕ)} (Ok (Some n)) (answered bs room)
     changed_answer h =
-        ap (λ k. Ok (Changed k)) whole ∙ (sym (cond-true {A = Result Cooked (ℕ × ℕ)} (leb (length ts) room) (Ok (Changed (length ts))) (Err (4, length ts)) (le-leb (length ts) room (omega arith))) ∙ valid_answer u (Some ts) r)
+        ap (λ k. Ok (Some k)) whole ∙ (sym (cond-true {A = Result (Option ℕ) (ℕ × ℕ)} (leb (length ts) room) (Ok (Some (length ts))) (Err (4, length ts)) (le-leb (length ts) room (omega arith))) ∙ valid_answer u (Some ts) r)
 
     pub changed_output : n ≤ room → (out : List ℕ) → length out ≡ room → ts ++ drop n out ≡ written bs out
     changed_output h out e = ap (λ k. ts ++ drop k out) whole ∙ (sym (cond-true (leb (length ts) (length out)) (ts ++ drop (length ts) out) out (le-leb (length ts) (length out) (omega arith))) ∙ valid_output u (Some ts) r out)

@@ -1,5 +1,5 @@
 -- What becomes of a source whose last lines may be a table in progress.
-use Rattle.std.specs.Prelude.{ℕ, zero, suc, Bool, cond, not, ◌&&◌, List, [], ◌∷◌, ◌++◌, length, take, drop, Some, None, Ok, Err, Option, Result, nat_le}
+use Rattle.std.specs.Prelude.{ℕ, zero, suc, Bool, cond, not, ◌&&◌, List, [], ◌∷◌, ◌++◌, length, take, drop, Some, None, Ok, Err, Option, Result, nat_le, codes, decimal}
 use Rattle.std.proofs.Math.Utf8.{scalars, encodes}
 use Rattle.std.specs.Option.{unwrap_or, option_map}
 use Rattle.std.specs.Str.{chars, bytes_eq}
@@ -7,15 +7,12 @@ use Rattle.tail.specs.Texts.{is, before, trimmed, ends_with, without_last}
 use Rattle.tail.specs.Lines.{lines_of}
 use Rattle.tail.specs.Fences.{run_at_end}
 use Rattle.tail.specs.Entries.{cell_count, complete, unfinished, delimiter_row}
-use Rattle.tail.specs.declared.fences.Fence.TheVariants.{Absent}
-use Rattle.tail.specs.declared.Cooked.{Cooked}
-use Rattle.tail.specs.declared.Cooked.TheVariants.{Same, Changed}
 use Rattle.tail.specs.declared.Refusal.{Refusal}
 use Rattle.tail.specs.declared.Refusal.TheVariants.{NotUtf8, TooShort}
 
 -- The run that reaches the end of a source, its one trailing line feed set aside.
 abbrev pub last_run : List ℕ → List (List ℕ)
-last_run cs = run_at_end Absent (lines_of (without_last 10 cs))
+last_run cs = run_at_end None (lines_of (without_last 10 cs))
 
 -- A line that is a lone pipe once trimmed.
 abbrev pub lone_pipe : List ℕ → Bool
@@ -69,18 +66,22 @@ abbrev pub numbered : Refusal → ℕ × ℕ
 numbered (NotUtf8 valid) = (3, valid)
 numbered (TooShort needed) = (4, needed)
 
+-- What is printed of a refusal: its number and its value.
+abbrev pub refusal_text : Refusal → List ℕ
+refusal_text e = decimal (numbered e).0 ++ (codes " " ++ decimal (numbered e).1)
+
 -- An answer with its refusal told by number and value.
-abbrev pub told : Result Cooked Refusal → Result Cooked (ℕ × ℕ)
-told (Ok c) = Ok c
+abbrev pub told : Result (Option ℕ) Refusal → Result (Option ℕ) (ℕ × ℕ)
+told (Ok o) = Ok o
 told (Err e) = Err (numbered e)
 
 -- The answer for the repaired bytes, with so much room in the output.
-abbrev pub answered_for : Option (List ℕ) → ℕ → Result Cooked (ℕ × ℕ)
-answered_for None room = Ok Same
-answered_for (Some ts) room = cond (nat_le (length ts) room) (Ok (Changed (length ts))) (Err (4, length ts))
+abbrev pub answered_for : Option (List ℕ) → ℕ → Result (Option ℕ) (ℕ × ℕ)
+answered_for None room = Ok None
+answered_for (Some ts) room = cond (nat_le (length ts) room) (Ok (Some (length ts))) (Err (4, length ts))
 
 -- The answer: 3 and the valid length where the source is not UTF-8, 4 and the cooked length where the output is shorter, and else whether something changed.
-abbrev pub answered : List ℕ → ℕ → Result Cooked (ℕ × ℕ)
+abbrev pub answered : List ℕ → ℕ → Result (Option ℕ) (ℕ × ℕ)
 answered bs room = cond (is_utf8 bs) (answered_for (repaired_bytes bs) room) (Err (3, valid_length bs))
 
 -- The output with the repaired bytes at its front, if there are any and they fit.
@@ -97,6 +98,6 @@ abbrev pub cooked : List ℕ → List ℕ
 cooked bs = unwrap_or (repaired_bytes bs) bs
 
 -- What a reading hands out: the source if nothing changed, else so much of the output.
-abbrev pub handed : Cooked → List ℕ → List ℕ → List ℕ
-handed Same bs out = bs
-handed (Changed n) bs out = take n out
+abbrev pub handed : Option ℕ → List ℕ → List ℕ → List ℕ
+handed None bs out = bs
+handed (Some n) bs out = take n out

@@ -1,5 +1,6 @@
 -- The entries of a table line.
 use Rattle.std.specs.Prelude.{ℕ, zero, suc, ◌%◌, Bool, true, false, cond, not, ◌&&◌, ◌||◌, List, [], ◌∷◌, length, ◌==◌}
+use Rattle.std.specs.List.{list_all}
 use Rattle.tail.specs.Texts.{all, is, at_end, trimmed, ends_with, front, without_first, without_last}
 use Rattle.tail.specs.Lines.{onto}
 
@@ -39,8 +40,7 @@ delimits e = hyphens (without_last 58 (without_first 58 (trimmed e)))
 
 -- Every entry is such a one.
 abbrev pub all_delimit : List (List ℕ) → Bool
-all_delimit [] = true
-all_delimit (e ∷ es) = delimits e && all_delimit es
+all_delimit es = list_all delimits es
 
 -- The line is a complete delimiter row for n entries.
 abbrev pub complete : ℕ → List ℕ → Bool

@@ -1,12 +1,11 @@
 -- Fences, and the run of pipe lines at the end of a list of lines.
-use Rattle.std.specs.Prelude.{ℕ, Bool, true, false, cond, not, ◌&&◌, List, [], ◌∷◌, nat_le}
+use Rattle.std.specs.Prelude.{ℕ, Bool, true, false, cond, not, ◌&&◌, List, [], ◌∷◌, nat_le, Option, Some, None}
 use Rattle.std.specs.Char.{is_whitespace}
 use Rattle.std.specs.List.{prefix_len}
 use Rattle.tail.specs.Texts.{all, any, is, past, starts_with}
 use Rattle.tail.specs.declared.fences.Mark.{Mark}
 use Rattle.tail.specs.declared.fences.Mark.TheVariants.{Backtick, Tilde}
 use Rattle.tail.specs.declared.fences.Fence.{Fence}
-use Rattle.tail.specs.declared.fences.Fence.TheVariants.{Absent, Open}
 
 -- The character of a mark.
 abbrev pub sign : Mark → ℕ
@@ -34,26 +33,30 @@ opens m l = nat_le 3 (mark_count m l) && may_follow m (behind m l)
 abbrev pub closes : Mark → ℕ → List ℕ → Bool
 closes m n l = nat_le n (mark_count m l) && all is_whitespace (behind m l)
 
--- The fence that is open below a line, by the one that is open above it.
-abbrev pub fence_below : Fence → List ℕ → Fence
-fence_below Absent l = cond (opens Backtick l) (Open Backtick (mark_count Backtick l)) (cond (opens Tilde l) (Open Tilde (mark_count Tilde l)) Absent)
-fence_below (Open m n) l = cond (closes m n l) Absent (Open m n)
+-- A fence of n marks.
+abbrev pub fence : Mark → ℕ → Fence
+fence m n = record { mark = m; marks = n }
+
+-- The fence that is open below a line, if any, by the one that is open above it.
+abbrev pub fence_below : Option Fence → List ℕ → Option Fence
+fence_below None l = cond (opens Backtick l) (Some (fence Backtick (mark_count Backtick l))) (cond (opens Tilde l) (Some (fence Tilde (mark_count Tilde l))) None)
+fence_below (Some f) l = cond (closes f.mark f.marks l) None (Some f)
 
 -- No fence is open.
-abbrev pub outside : Fence → Bool
-outside Absent = true
-outside (Open m n) = false
+abbrev pub outside : Option Fence → Bool
+outside None = true
+outside (Some f) = false
 
 -- The line belongs to a run, by the fence above it: it stands outside fences and starts, after leading white space, with a pipe.
-abbrev pub belongs : Fence → List ℕ → Bool
+abbrev pub belongs : Option Fence → List ℕ → Bool
 belongs f l = outside f && starts_with 124 (past is_whitespace l)
 
 -- All the lines belong to one run.
-abbrev pub all_belong : Fence → List (List ℕ) → Bool
+abbrev pub all_belong : Option Fence → List (List ℕ) → Bool
 all_belong f [] = true
 all_belong f (l ∷ ls) = belongs f l && all_belong (fence_below f l) ls
 
 -- The run that reaches the end: the longest end of the list whose lines all belong to one run.
-abbrev pub run_at_end : Fence → List (List ℕ) → List (List ℕ)
+abbrev pub run_at_end : Option Fence → List (List ℕ) → List (List ℕ)
 run_at_end f [] = []
 run_at_end f (l ∷ ls) = cond (belongs f l && all_belong (fence_below f l) ls) (l ∷ ls) (run_at_end (fence_below f l) ls)

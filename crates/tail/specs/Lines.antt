@@ -6,7 +6,11 @@ abbrev pub onto : ℕ → List (List ℕ) → List (List ℕ)
 onto c [] = []
 onto c (l ∷ ls) = (c ∷ l) ∷ ls
 
+-- What stands between the characters d. A text without any is one piece.
+abbrev pub parts : ℕ → List ℕ → List (List ℕ)
+parts d [] = [] ∷ []
+parts d (c ∷ cs) = cond (c == d) ([] ∷ parts d cs) (onto c (parts d cs))
+
 -- What stands between line feeds. A text without any is one line.
 abbrev pub lines_of : List ℕ → List (List ℕ)
-lines_of [] = [] ∷ []
-lines_of (c ∷ cs) = cond (c == 10) ([] ∷ lines_of cs) (onto c (lines_of cs))
+lines_of cs = parts 10 cs

@@ -1,16 +1,15 @@
 -- Words for texts. A text is the list of its characters, each the number of a code point.
-use Rattle.std.specs.Prelude.{ℕ, Bool, true, false, cond, ◌&&◌, ◌||◌, List, [], ◌∷◌, length, drop, ◌==◌}
+use Rattle.std.specs.Prelude.{ℕ, Bool, false, cond, ◌&&◌, List, [], ◌∷◌, length, drop, ◌==◌}
+use Rattle.std.specs.List.{list_all, list_any}
 use Rattle.std.specs.Char.{is_whitespace}
 
 -- Every character passes the test.
 abbrev pub all : (ℕ → Bool) → List ℕ → Bool
-all p [] = true
-all p (c ∷ cs) = p c && all p cs
+all p cs = list_all p cs
 
 -- Some character passes the test.
 abbrev pub any : (ℕ → Bool) → List ℕ → Bool
-any p [] = false
-any p (c ∷ cs) = p c || any p cs
+any p cs = list_any p cs
 
 -- The test for one character.
 abbrev pub is : ℕ → ℕ → Bool

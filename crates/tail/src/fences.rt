@@ -1,10 +1,10 @@
 // Fences, and what a line is to them.
-ghost use Rattle.std.specs.Prelude.{◌≡◌, ℕ, List};
+ghost use Rattle.std.specs.Prelude.{◌≡◌};
 ghost use Rattle.std.specs.List.{prefix_len};
 ghost use Rattle.std.specs.Str.{chars};
 ghost use Rattle.tail.specs.Texts.{is, past};
-ghost use Rattle.tail.specs.Fences.{sign, may_follow, fence_below};
-ghost use Rattle.tail.specs.Scanning.{mark_class, class_of, Sound};
+ghost use Rattle.tail.specs.Fences.{sign, may_follow};
+ghost use Rattle.tail.specs.Scanning.{ends, stepped, mark_class, class_of};
 
 // A fence has three marks or more.
 const LEAST: usize = 3;
@@ -37,36 +37,19 @@ impl Mark {
     }
 }
 
-// The fence that is open, if any.
+// A fence, by what it is made of and how many marks open it.
 #[derive(Clone, Copy)]
-pub enum Fence {
-    Absent,
-    // a fence of so many marks
-    Open(Mark, usize),
+pub struct Fence {
+    pub mark: Mark,
+    pub marks: usize,
 }
 
 impl Fence {
-    // The fence that is open below a line of this class.
-    pub fn below(self, class: Class) -> Fence
-        requires { Sound self }
-        ensures { (l : List ℕ) → class ≡ class_of l → (result ≡ fence_below self l) × Sound result }
+    // Whether a line of these marks alone closes the fence that is open.
+    fn ends(self, opened: Fence) -> bool
+        ensures { result ≡ ends self opened }
     {
-        match (self, class) {
-            (Fence::Absent, Class::Pipe) => self,
-            (Fence::Absent, Class::Bare(mark, len)) => Fence::Open(mark, len),
-            (Fence::Absent, Class::Info(mark, len)) => Fence::Open(mark, len),
-            (Fence::Absent, Class::Other) => self,
-            (Fence::Open(_, _), Class::Pipe) => self,
-            (Fence::Open(mark, least), Class::Bare(found, len)) => {
-                if found == mark && least <= len {
-                    Fence::Absent
-                } else {
-                    self
-                }
-            }
-            (Fence::Open(_, _), Class::Info(_, _)) => self,
-            (Fence::Open(_, _), Class::Other) => self,
-        }
+        self.mark == opened.mark && opened.marks <= self.marks
     }
 }
 
@@ -75,11 +58,23 @@ impl Fence {
 pub enum Class {
     // it starts with a pipe
     Pipe,
-    // so many marks and nothing else: it opens a fence, or closes one of as many marks or fewer
-    Bare(Mark, usize),
-    // so many marks and words behind them: it opens a fence
-    Info(Mark, usize),
+    // the marks of a fence and nothing else: it opens this fence, or closes one of as many marks or fewer
+    Bare(Fence),
+    // the marks of a fence and words behind them: it opens this fence
+    Info(Fence),
     Other,
+}
+
+// The fence that is open below a line of this class, by the one that is open above it.
+pub fn fence_below(fence: Option<Fence>, class: Class) -> Option<Fence>
+    ensures { result ≡ stepped fence class }
+{
+    match (fence, class) {
+        (None, Class::Bare(opened) | Class::Info(opened)) => Some(opened),
+        (None, Class::Pipe | Class::Other) => None,
+        (Some(open), Class::Bare(found)) if found.ends(open) => None,
+        (Some(open), _) => Some(open),
+    }
 }
 
 // How many of the mark the text begins with, and what follows them.
@@ -87,26 +82,21 @@ fn split_marks(text: &str, mark: Mark) -> (usize, &str)
     ensures count { result.0 ≡ prefix_len (is (sign mark)) (chars text.now) }
     ensures rest { chars result.1.now ≡ past (is (sign mark)) (chars text.now) }
 {
-    let mut count = 0;
-    let mut rest = text;
-    while let Some(more) = rest.strip_prefix(mark.sign()) {
-        count += 1;
-        rest = more;
-    }
-    (count, rest)
+    let rest = text.trim_start_matches(mark.sign());
+    (text.len() - rest.len(), rest)
 }
 
 // The class of a text that begins with the mark.
 fn classify_marks(text: &str, mark: Mark) -> Class
     ensures { result ≡ mark_class mark (chars text.now) }
 {
-    let (count, rest) = split_marks(text, mark);
-    if count < LEAST {
+    let (marks, rest) = split_marks(text, mark);
+    if marks < LEAST {
         Class::Other
     } else if rest.trim_start().is_empty() {
-        Class::Bare(mark, count)
+        Class::Bare(Fence { mark, marks })
     } else if mark.may_precede(rest) {
-        Class::Info(mark, count)
+        Class::Info(Fence { mark, marks })
     } else {
         Class::Other
     }

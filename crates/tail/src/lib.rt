@@ -2,10 +2,11 @@
 
 #![tactic(auto)]
 
-ghost use Rattle.std.specs.Prelude.{◌≡◌, length, IfOk};
-ghost use Rattle.tail.specs.Cook.{numbered, told, answered, written, handed, cooked};
+ghost use Rattle.std.specs.Prelude.{◌≡◌, length, Some, IfOk};
+ghost use Rattle.tail.specs.Cook.{numbered, refusal_text, told, answered, written, handed, cooked};
 
 use judge::judge;
+use std::fmt;
 
 mod delimiters;
 mod entries;
@@ -14,33 +15,20 @@ mod judge;
 mod patch;
 mod repair;
 mod scan;
+mod texts;
 
-// What became of the source.
-#[derive(Clone, Copy)]
-pub enum Cooked {
-    // nothing: the source is the cooked text
-    Same,
-    // so many bytes of the output are the cooked text
-    Changed(usize),
-}
-
-impl Cooked {
-    // The cooked text: the source if nothing changed, else so much of the output.
-    pub fn text<'a>(self, source: &'a [u8], out: &'a [u8]) -> &'a [u8]
-        ensures { result.now ≡ handed self source.now out.now }
-    {
-        match self {
-            Cooked::Same => source,
-            Cooked::Changed(len) => {
-                let end = len.min(out.len());
-                &out[0..end]
-            }
-        }
+// The cooked text: the source if nothing changed, else so many bytes of the output.
+pub fn cooked_text<'a>(cooked: Option<usize>, source: &'a [u8], out: &'a [u8]) -> &'a [u8]
+    ensures { result.now ≡ handed cooked source.now out.now }
+{
+    match cooked {
+        None => source,
+        Some(len) => &out[..len.min(out.len())],
     }
 }
 
 // Why a source is not cooked.
-#[derive(Clone, Copy)]
+#[derive(Clone, Copy, Debug, PartialEq, Eq)]
 pub enum Refusal {
     // not UTF-8; so many bytes at the front are
     NotUtf8(usize),
@@ -60,15 +48,24 @@ impl Refusal {
     }
 }
 
-// Makes a table in progress at the end of a source parseable.
-pub fn cook_streaming_tail(source: &[u8], out: &mut [u8]) -> Result<Cooked, Refusal>
+impl fmt::Display for Refusal {
+    ghost output = { λ e. Some (refusal_text e) };
+
+    fn fmt<W: fmt::Write>(&self, f: &mut fmt::Formatter<W>) -> fmt::Result {
+        let (number, value) = self.numbered();
+        write!(f, "{number} {value}")
+    }
+}
+
+// Makes a table in progress at the end of a source parseable. Nothing is written where nothing changes; else so many
+// bytes of the output are the cooked text.
+pub fn cook_streaming_tail(source: &[u8], out: &mut [u8]) -> Result<Option<usize>, Refusal>
     ensures value { told result ≡ answered source.now (length out.old) }
     ensures after { out.new ≡ written source.now out.old }
     ensures text { IfOk result (λ c. handed c source.now out.new ≡ cooked source.now) }
 {
-    match judge(source, out.len()) {
-        Err(refusal) => Err(refusal),
-        Ok(None) => Ok(Cooked::Same),
-        Ok(Some(patch)) => Ok(Cooked::Changed(patch.write(source, out))),
-    }
+    let Some(patch) = judge(source, out.len())? else {
+        return Ok(None);
+    };
+    Ok(Some(patch.write(out)))
 }

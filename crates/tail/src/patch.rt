@@ -1,13 +1,13 @@
 // What is put in place of a tail, and how it is written.
-ghost use Rattle.std.specs.Prelude.{◌≡◌, ℕ, ◌+◌, ◌*◌, ◌≤◌, cond, List, [], ◌∷◌, ◌++◌, length, take, drop};
+ghost use Rattle.std.specs.Prelude.{◌≡◌, ◌+◌, ◌*◌, ◌≤◌, ◌++◌, length, take, drop};
 ghost use Rattle.std.proofs.Math.Seq.{paste};
 ghost use Rattle.tail.specs.Entries.{delimiter_row};
 ghost use Rattle.tail.specs.Patches.{patched, size};
 
-// A repaired text: so many bytes of the source, a line feed if one is missing, and a delimiter row.
+// A repaired text: what is kept of the source, a line feed if one is missing, and a delimiter row.
 #[derive(Clone, Copy)]
-pub struct Patch {
-    pub kept: usize,
+pub struct Patch<'a> {
+    pub kept: &'a str,
     pub line_feed: bool,
     pub cols: usize,
 }
@@ -26,26 +26,23 @@ fn delimiter_row(out: &mut [u8], at: usize, cols: usize) -> usize
     at + 1 + 4 * cols
 }
 
-impl Patch {
+impl<'a> Patch<'a> {
     // How many bytes the repaired text has.
     pub fn size(self) -> u128
-        ensures { result ≡ size self }
+        ensures { result ≡ size self.entry }
     {
-        let gap: u128 = if self.line_feed { 1 } else { 0 };
-        self.kept as u128 + gap + 1 + 4 * self.cols as u128
+        self.kept.len() as u128 + u128::from(self.line_feed) + 1 + 4 * self.cols as u128
     }
 
     // Writes the repaired text to the front of the output. Gives its length.
-    pub fn write(self, source: &[u8], out: &mut [u8]) -> usize
-        requires source { self.kept ≤ length source.now }
-        requires out { size self ≤ length out.old }
-        ensures value { result ≡ size self }
-        ensures after { out.new ≡ patched self source.now ++ drop (size self) out.old }
-        ensures text { take result out.new ≡ patched self source.now }
+    pub fn write(self, out: &mut [u8]) -> usize
+        requires { size self ≤ length out.old }
+        ensures value { result ≡ size self.entry }
+        ensures after { out.new ≡ patched self.entry ++ drop (size self.entry) out.old }
+        ensures text { take result out.new ≡ patched self.entry }
     {
-        let kept = self.kept;
-        out[0..kept].copy_from_slice(&source[0..kept]);
-        let mut at = kept;
+        let mut at = self.kept.len();
+        out[..at].copy_from_slice(self.kept.as_bytes());
         if self.line_feed {
             out[at] = b'\n';
             at += 1;

@@ -1,5 +1,5 @@
 // Which repair the run at the end of a text asks for.
-ghost use Rattle.std.specs.Prelude.{◌≡◌, ℕ, ◌≤◌, List, [], ◌∷◌, ◌++◌, length, take, IfSome};
+ghost use Rattle.std.specs.Prelude.{◌≡◌, [], ◌∷◌};
 ghost use Rattle.std.proofs.Math.Utf8.{encodes};
 ghost use Rattle.std.specs.Option.{option_map};
 ghost use Rattle.std.specs.Str.{chars};
@@ -11,6 +11,7 @@ use super::delimiters::{complete, delimiter_charset};
 use super::entries::cell_count;
 use super::patch::Patch;
 use super::scan::{Run, run_at_end};
+use super::texts::without_last;
 
 // Whether the line, once trimmed, is a pipe and nothing else.
 fn lone_pipe(line: &str) -> bool
@@ -19,64 +20,63 @@ fn lone_pipe(line: &str) -> bool
     line.trim() == "|"
 }
 
-// Where the last line begins.
-fn last_line(text: &str) -> usize
-    ensures value { take result text.now ≡ encodes (without_last_line (chars text.now)) }
-    ensures bound { result ≤ length text.now }
+// Whether the last line is ended.
+fn ended(text: &str) -> bool
+    ensures { result ≡ ends_with 10 (chars text.now) }
+{
+    text.ends_with('\n')
+}
+
+// The text without its last line.
+fn without_last_line(text: &str) -> &str
+    ensures { result.now ≡ encodes (without_last_line (chars text.now)) }
 {
     match text.rfind('\n') {
-        Some(i) => i + 1,
-        None => 0,
+        Some(i) => &text[..i + 1],
+        None => "",
     }
 }
 
 // Below a header alone: the delimiter row is still to come.
-fn after_header(text: &str, header: &str, ended: bool) -> Option<Patch>
-    requires { ended ≡ ends_with 10 (chars text.now) }
-    ensures value { option_map (λ p. patched p text.now) result ≡ option_map encodes (repaired_by (chars header.now ∷ []) (chars text.now)) }
-    ensures bound { IfSome result (λ p. p.kept ≤ length text.now) }
+fn after_header<'a>(text: &'a str, header: &str) -> Option<Patch<'a>>
+    ensures { option_map patched result ≡ option_map encodes (repaired_by (chars header.now ∷ []) (chars text.now)) }
 {
     if lone_pipe(header) {
         return None;
     }
     Some(Patch {
-        kept: text.len(),
-        line_feed: !ended,
+        kept: text,
+        line_feed: !ended(text),
         cols: cell_count(header),
     })
 }
 
 // A header and one more line, which may be a delimiter row in progress.
-fn after_two(text: &str, header: &str, line: &str, ended: bool) -> Option<Patch>
-    requires { ended ≡ ends_with 10 (chars text.now) }
-    ensures value { option_map (λ p. patched p text.now) result ≡ option_map encodes (repaired_by (chars header.now ∷ chars line.now ∷ []) (chars text.now)) }
-    ensures bound { IfSome result (λ p. p.kept ≤ length text.now) }
+fn after_two<'a>(text: &'a str, header: &str, line: &str) -> Option<Patch<'a>>
+    ensures { option_map patched result ≡ option_map encodes (repaired_by (chars header.now ∷ chars line.now ∷ []) (chars text.now)) }
 {
     if lone_pipe(header) {
         return None;
     }
     let cols = cell_count(header);
-    if complete(line, cols) || ended || !delimiter_charset(line) {
+    if complete(line, cols) || ended(text) || !delimiter_charset(line) {
         return None;
     }
     Some(Patch {
-        kept: last_line(text),
+        kept: without_last_line(text),
         line_feed: false,
         cols,
     })
 }
 
 // The repair of a text, if it needs one.
-pub fn repair(text: &str) -> Option<Patch>
-    ensures value { option_map (λ p. patched p text.now) result ≡ repaired_bytes text.now }
-    ensures bound { IfSome result (λ p. p.kept ≤ length text.now) }
+pub fn repair(text: &str) -> Option<Patch<'_>>
+    ensures { option_map patched result ≡ repaired_bytes text.now }
 {
-    let ended = text.ends_with('\n');
-    let body = text.strip_suffix('\n').unwrap_or(text);
-    match run_at_end(body) {
+    match run_at_end(without_last(text, '\n')) {
         Run::Empty => None,
-        Run::Header(header) => after_header(text, header, ended),
-        Run::Pair(header, line) => after_two(text, header, line, ended),
+        Run::Header(header) => after_header(text, header),
+        Run::Pair(header, line) => after_two(text, header, line),
         Run::Longer => None,
     }
 }

@@ -1,13 +1,11 @@
 // The run of pipe lines at the end of a text.
-ghost use Rattle.std.specs.Prelude.{◌≡◌, ℕ, List, [], ◌∷◌, ◌++◌, if◌then◌else◌};
+ghost use Rattle.std.specs.Prelude.{◌≡◌, ℕ, List, [], ◌∷◌, ◌++◌, None, if◌then◌else◌};
 ghost use Rattle.std.specs.Str.{chars};
 ghost use Rattle.tail.specs.Lines.{lines_of};
 ghost use Rattle.tail.specs.Fences.{belongs, fence_below, run_at_end};
-ghost use Rattle.tail.specs.Scanning.{Sound};
-ghost use Rattle.tail.specs.declared.fences.Fence.TheVariants.{Absent};
-ghost use Rattle.tail.specs.Scanning.{Holds};
+ghost use Rattle.tail.specs.Scanning.{Sound, Holds};
 
-use super::fences::{Class, Fence, classify};
+use super::fences::{Class, Fence, classify, fence_below};
 
 // The lines of a run, as far as they matter.
 #[derive(Clone, Copy)]
@@ -33,10 +31,10 @@ impl<'a> Run<'a> {
     }
 }
 
-// What was read of a text: the fence below the last line, and the run that reaches it.
+// What was read of a text: the fence below the last line, if one is open, and the run that reaches that line.
 #[derive(Clone, Copy)]
 struct Scanner<'a> {
-    fence: Fence,
+    fence: Option<Fence>,
     run: Run<'a>,
 }
 
@@ -50,11 +48,11 @@ impl<'a> Scanner<'a> {
     {
         let class = classify(line);
         let run = match (self.fence, class) {
-            (Fence::Absent, Class::Pipe) => self.run.grown(line),
+            (None, Class::Pipe) => self.run.grown(line),
             _ => Run::Empty,
         };
         Scanner {
-            fence: self.fence.below(class),
+            fence: fence_below(self.fence, class),
             run,
         }
     }
@@ -62,10 +60,10 @@ impl<'a> Scanner<'a> {
 
 // The run that reaches the end of a text.
 pub fn run_at_end(text: &str) -> Run<'_>
-    ensures { Holds result (run_at_end Absent (lines_of (chars text.now))) }
+    ensures { Holds result (run_at_end None (lines_of (chars text.now))) }
 {
     let mut scanner = Scanner {
-        fence: Fence::Absent,
+        fence: None,
         run: Run::Empty,
     };
     for line in text.split('\n') {

@@ -1,7 +1,7 @@
 // What a source is cooked to.
 use std::process::Abort;
 use std::test::Fail;
-use tail::{Cooked, cook_streaming_tail};
+use tail::{cook_streaming_tail, cooked_text};
 
 // How many bytes of output the tests lend.
 const ROOM: usize = 96;
@@ -9,57 +9,24 @@ const ROOM: usize = 96;
 // What the output holds before.
 const FILL: u8 = 7;
 
-// Whether two texts are the same.
-fn equal(a: &[u8], b: &[u8]) -> bool {
-    if a.len() != b.len() {
-        return false;
-    }
-    for i in 0..a.len() {
-        if a[i] != b[i] {
-            return false;
-        }
-    }
-    true
-}
-
-// Whether nothing was written from a place of the output on.
-fn untouched(out: &[u8], from: usize) -> bool {
-    for i in from..out.len() {
-        if out[i] != FILL {
-            return false;
-        }
-    }
-    true
-}
-
 // The source stays as it is, and the output too.
 pub fn stays(rt: &impl Abort, source: &[u8]) -> Result<(), Fail> {
     let mut out = [FILL; ROOM];
-    match cook_streaming_tail(source, &mut out) {
-        Ok(Cooked::Same) => {
-            assert!(rt; equal(Cooked::Same.text(source, &out), source) && untouched(&out, 0));
-            Ok(())
-        },
-        Ok(Cooked::Changed(_)) => Err(Fail::new("it was changed")),
-        Err(_) => Err(Fail::new("it was refused")),
-    }
+    let cooked = cook_streaming_tail(source, &mut out)?;
+    assert_eq!(rt; cooked, None);
+    assert_eq!(rt; cooked_text(cooked, source, &out), source);
+    assert!(rt; out.iter().all(|b| *b == FILL));
+    Ok(())
 }
 
 // The source is cooked to this text, and the output beyond it stays.
 pub fn becomes(rt: &impl Abort, source: &[u8], wanted: &[u8]) -> Result<(), Fail> {
     let mut out = [FILL; ROOM];
-    match cook_streaming_tail(source, &mut out) {
-        Ok(Cooked::Changed(len)) => {
-            assert!(rt;
-                len == wanted.len()
-                    && equal(Cooked::Changed(len).text(source, &out), wanted)
-                    && untouched(&out, len)
-            );
-            Ok(())
-        },
-        Ok(Cooked::Same) => Err(Fail::new("it stayed as it was")),
-        Err(_) => Err(Fail::new("it was refused")),
-    }
+    let cooked = cook_streaming_tail(source, &mut out)?;
+    assert_eq!(rt; cooked, Some(wanted.len()));
+    assert_eq!(rt; cooked_text(cooked, source, &out), wanted);
+    assert!(rt; out.iter().skip(wanted.len()).all(|b| *b == FILL));
+    Ok(())
 }
 
 #[test]

@@ -1,9 +1,9 @@
 -- Laws of words that are numbers.
-use Rattle.std.proofs.Common.{◌≡◌, ℕ, ◌+◌, ◌^◌, ◌<◌, ◌≤◌, Bool, true, cond, ◌&&◌, leb, List, [], ◌∷◌, length, get_or, drop, Ok, Err, Result, sym, refl, ap, ◌∙◌, ⊎_elim, arith}
+use Rattle.std.proofs.Common.{◌≡◌, ℕ, ◌^◌, ◌<◌, ◌≤◌, Bool, true, cond, ◌&&◌, leb, List, [], ◌∷◌, length, Ok, Err, Result, sym, refl, ap, ◌∙◌, ⊎_elim, arith}
 use Rattle.std.specs.Str.Parse.{ParsesUnsigned}
 use Rattle.std.specs.Char.{is_ascii_digit}
 use Rattle.std.specs.Str.{all_ascii_digits}
-use Rattle.std.proofs.lemmas.List.{at_drop_more}
+use Rattle.std.specs.List.{list_all}
 use Rattle.std.proofs.lemmas.Str.Parse.{IsNumeralModel, numerals_by_fold, tells_all_ascii_digits, parse_digits}
 use Rattle.std.proofs.lemmas.Result.{OkIff-at_ok, OkIff-at_err}
 use Rattle.std.proofs.lemmas.Bool.{cases_lt, cond-true, cond-false, le-leb, lt-leb}
@@ -14,9 +14,10 @@ use Rattle.words.specs.Numbers.{extended, numeral, is_number, number_in}
 own : IsNumeralModel (λ ds. all_ascii_digits ds ≡ true) numeral
 own = numerals_by_fold _ tells_all_ascii_digits extended (record { empty = λ n. refl; more = λ n c cs h. refl })
 
--- A step of a walk over digits.
-pub digits_more : (bs : List ℕ) (i : ℕ) (t : Bool) → i < length bs → is_ascii_digit (get_or bs i 0) ≡ t → all_ascii_digits (drop i bs) ≡ (t && all_ascii_digits (drop (i + 1) bs))
-digits_more bs i t h e = at_drop_more all_ascii_digits bs i 0 h ∙ ap (λ (b : Bool). b && all_ascii_digits (drop (i + 1) bs)) e
+-- Whether each byte is a digit.
+pub digits_all : (bs : List ℕ) → list_all is_ascii_digit bs ≡ all_ascii_digits bs
+digits_all [] = refl
+digits_all (c ∷ cs) = ap (λ (t : Bool). is_ascii_digit c && t) (digits_all cs)
 
 is_number_digits : (bs : List ℕ) → 0 < length bs → is_number bs ≡ all_ascii_digits bs
 is_number_digits [] h = absurd (omega arith)

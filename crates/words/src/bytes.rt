@@ -1,6 +1,6 @@
 // Words that are byte strings: pairs of lowercase hexadecimal digits, or `-` for the empty string.
-ghost use Rattle.std.specs.Prelude.{◌≡◌, ◌+◌, ◌*◌, ◌/◌, ◌%◌, ◌<◌, ◌&&◌, [], ◌∷◌, ◌++◌, IfOk, if◌then◌else◌, Some, None, vec_items, string_bytes, OnOk};
-ghost use Rattle.words.specs.Bytes.{is_hex, hex_value, hex_in, bytes_in, hex_digit, hex_of, hex_text};
+ghost use Rattle.std.specs.Prelude.{◌≡◌, ◌+◌, ◌*◌, ◌&&◌, IfOk, if◌then◌else◌, Some, None, vec_items, string_bytes};
+ghost use Rattle.words.specs.Bytes.{is_hex, hex_value, hex_in, bytes_in, hex_of, hex_text};
 ghost use Rattle.words.specs.Outcomes.{Gives};
 
 use crate::faults::*;
@@ -28,52 +28,28 @@ fn hex_bytes(heap: Global, word: &[u8]) -> Result<Vec<u8>, Fault>
     ensures { Gives vec_items result (hex_in word.now) }
 {
     let mut bytes = Vec::new(heap);
-    let mut at = 0;
-    while at + 1 < word.len() {
-        let Some(byte) = hex_pair(word[at], word[at + 1]) else {
-            return Err(Fault::NotBytes);
-        };
+    let mut left = word;
+    while let [high, low, rest @ ..] = left {
+        let byte = hex_pair(*high, *low).ok_or(Fault::NotBytes)?;
         bytes.push(byte)?;
-        at += 2;
+        left = rest;
     }
-    if at < word.len() {
-        return Err(Fault::NotBytes);
+    if left.is_empty() {
+        Ok(bytes)
+    } else {
+        Err(Fault::NotBytes)
     }
-    Ok(bytes)
 }
 
 // The byte string that a word says.
 pub fn bytes(heap: Global, word: &str) -> Result<Vec<u8>, Fault>
     ensures { Gives vec_items result (bytes_in word.now) }
 {
-    if word.is_empty() {
-        return Err(Fault::NotBytes);
+    match word {
+        "" => Err(Fault::NotBytes),
+        "-" => Ok(Vec::new(heap)),
+        _ => hex_bytes(heap, word.as_bytes()),
     }
-    if word == "-" {
-        return Ok(Vec::new(heap));
-    }
-    hex_bytes(heap, word.as_bytes())
-}
-
-fn hex_digit(value: u8) -> char
-    requires { value < 16 }
-    ensures value { result ≡ hex_digit value }
-    ensures bound { result < 128 }
-{
-    if value <= 9 {
-        (b'0' + value) as char
-    } else {
-        (b'a' + (value - 10)) as char
-    }
-}
-
-// A byte as two hexadecimal digits behind a text.
-fn push_byte(text: &mut String, byte: u8) -> Result<(), Fault>
-    ensures { OnOk result (string_bytes text.new ≡ string_bytes text.old ++ (hex_digit (byte / 16) ∷ hex_digit (byte % 16) ∷ [])) }
-{
-    text.push(hex_digit(byte / 16))?;
-    text.push(hex_digit(byte % 16))?;
-    Ok(())
 }
 
 fn hex_of(heap: Global, bytes: &[u8]) -> Result<String, Fault>
@@ -81,7 +57,7 @@ fn hex_of(heap: Global, bytes: &[u8]) -> Result<String, Fault>
 {
     let mut text = String::new(heap);
     for b in bytes {
-        push_byte(&mut text, *b)?;
+        write!(text, "{b:02x}")?;
     }
     Ok(text)
 }

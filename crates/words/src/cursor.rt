@@ -1,5 +1,6 @@
 // The words of a line, one after the other: the pieces between its single spaces.
 ghost use Rattle.std.specs.Prelude.{◌≡◌, ◌≤◌, [], ◌∷◌, drop, IfOk, vec_items, MatchOption};
+ghost use Rattle.std.specs.Iterator.{YieldsFirstRef, item_count};
 ghost use Rattle.words.specs.Bytes.{first_number, first_bytes, ended};
 ghost use Rattle.words.specs.Outcomes.{Gives};
 ghost use Rattle.words.specs.Pieces.{words_of, words_in, words_left, leads, past};
@@ -36,10 +37,8 @@ impl<'a> Words<'a> {
         ensures bound { IfOk result (λ n. n ≤ most) }
         ensures after { words_left self.new ≡ drop 1 (words_left self.old) }
     {
-        match self.next_word() {
-            Some(word) => number(word, most, Fault::TooLarge),
-            None => Err(Fault::MissingNumber),
-        }
+        let word = self.next_word().ok_or(Fault::MissingNumber)?;
+        number(word, most, Fault::TooLarge)
     }
 
     // The next word as a byte string.
@@ -47,10 +46,8 @@ impl<'a> Words<'a> {
         ensures value { Gives vec_items result (first_bytes (words_left self.old)) }
         ensures after { words_left self.new ≡ drop 1 (words_left self.old) }
     {
-        match self.next_word() {
-            Some(word) => bytes(heap, word),
-            None => Err(Fault::MissingBytes),
-        }
+        let word = self.next_word().ok_or(Fault::MissingBytes)?;
+        bytes(heap, word)
     }
 
     // That no word is left.
@@ -68,15 +65,27 @@ impl<'a> Words<'a> {
         ensures value { result ≡ leads word.now (words_left self.old) }
         ensures after { words_left self.new ≡ past word.now (words_left self.old) }
     {
-        let mut ahead = Words { rest: self.rest };
-        let Some(next) = ahead.next_word() else {
+        let Some(line) = self.rest else {
             return false;
         };
+        let (next, behind) = first_word(line);
         if next == word {
-            self.rest = ahead.rest;
+            self.rest = behind;
             return true;
         }
         false
+    }
+}
+
+impl<'a> Iterator for Words<'a> {
+    type Item = &'a str;
+
+    ghost next_gives = { YieldsFirstRef words_left };
+
+    ghost remaining = { item_count words_left };
+
+    fn next(&mut self) -> Option<&'a str> {
+        Words::next_word(self)
     }
 }
 

@@ -11,10 +11,8 @@ use std::str::from_utf8;
 pub fn text_of(raw: &[u8]) -> Result<&str, Fault>
     ensures { MatchResult result (λ s. (s.now ≡ body raw.now) × IsUtf8 s.now) (λ e. (e ≡ NotText) × (IsUtf8 (body raw.now) → ⊥)) }
 {
-    match from_utf8(without_last(without_last(raw, b'\n'), b'\r')) {
-        Ok(text) => Ok(text),
-        Err(_) => Err(Fault::NotText),
-    }
+    let line = without_last(without_last(raw, b'\n'), b'\r');
+    from_utf8(line).map_err(|_| Fault::NotText)
 }
 
 fn without_last(bytes: &[u8], end: u8) -> &[u8]
@@ -24,7 +22,7 @@ fn without_last(bytes: &[u8], end: u8) -> &[u8]
 }
 
 // A line that cannot be read: its number, counted from 1, and why.
-#[derive(Clone, Copy)]
+#[derive(Clone, Copy, Debug, PartialEq, Eq)]
 pub struct Trouble {
     pub line: u64,
     pub fault: Fault,

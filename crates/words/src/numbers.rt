@@ -14,22 +14,14 @@ pub fn number(word: &str, most: u64, above: Fault) -> Result<u64, Fault>
         return Err(Fault::NotANumber);
     }
     // Digits that do not fit 64 bits are above every `most`.
-    let Ok(n) = word.parse::<u64>() else {
-        return Err(above);
-    };
-    if n > most {
-        return Err(above);
+    match word.parse::<u64>() {
+        Ok(n) if n <= most => Ok(n),
+        _ => Err(above),
     }
-    Ok(n)
 }
 
 fn all_digits(word: &[u8]) -> bool
     ensures { result ≡ all_ascii_digits word.now }
 {
-    for b in word {
-        if !b.is_ascii_digit() {
-            return false;
-        }
-    }
-    true
+    word.iter().all(|b| b.is_ascii_digit())
 }

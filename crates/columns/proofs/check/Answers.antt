@@ -1,18 +1,16 @@
-use Rattle.std.proofs.Common.{arith}
-use Rattle.std.proofs.lemmas.List.{at_drop_all}
-use Rattle.std.proofs.lemmas.Bool.Decides.{nat_tests}
-use Rattle.columns.specs.Layout.{first_too_wide}
-use Rattle.columns.proofs.Checks.{first_too_wide_more}
+use Rattle.std.proofs.Common.{rules, nat_lt}
+use borrow.Author.Tests.{tests}
+use Rattle.std.proofs.lemmas.Iterator.{YieldsList-from_slice}
+use Rattle.std.proofs.lemmas.Iterator.Search.{position_from_yields_List}
+use Rattle.columns.proofs.Checks.{answered_by}
 use Rattle.columns.proofs.check.Goals as goal
 
-pub returns-then-n-gt-MAX_NATURAL : goal.returns-then-n-gt-MAX_NATURAL
-returns-then-n-gt-MAX_NATURAL c =
-    let e = first_too_wide_more c.loop-i.i c.args.given.now (omega arith) in grind (arith, nat_tests)
+pub returns-in-Some : goal.returns-in-Some
+returns-in-Some c =
+    answered_by c.args.given.now _ c.if-given-gt-MAX_COLUMNS.false c.in-Some.is
+    (position_from_yields_List (nat_lt 100000) _ _ _ c.position.ensures.ran (YieldsList-from_slice c.args.given.now cc) (λ x b q k. search (rules, tests)))
 
-pub loop-i-preserved : goal.loop-i-preserved
-loop-i-preserved c =
-    let e = first_too_wide_more c.loop-i.i c.args.given.now (omega arith) in grind (arith, nat_tests)
-
-pub returns : goal.returns
-returns c =
-    let e = at_drop_all (first_too_wide c.loop-i.i) c.args.given.now c.loop-i.i (omega arith) in grind (arith, nat_tests)
+pub returns-in-None : goal.returns-in-None
+returns-in-None c =
+    answered_by c.args.given.now _ c.if-given-gt-MAX_COLUMNS.false c.in-None.is
+    (position_from_yields_List (nat_lt 100000) _ _ _ c.position.ensures.ran (YieldsList-from_slice c.args.given.now cc) (λ x b q k. search (rules, tests)))

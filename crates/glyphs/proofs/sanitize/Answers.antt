@@ -1,45 +1,35 @@
-use Rattle.std.proofs.Common.{◌+◌, length, sym, ap, ◌∙◌, arith, rules}
+use Rattle.std.proofs.Common.{◌+◌, sym, ap, ◌∙◌, arith, rules}
+use Rattle.std.specs.List.{flat_map}
 use lib.Seq.{sets}
-use Rattle.glyphs.specs.Glyphs.{sanitized}
-use Rattle.glyphs.proofs.Walking.{count_step, written_step, sanitized-none, overwritten_sets}
+use Rattle.glyphs.specs.Pieces.{piece}
+use Rattle.glyphs.specs.Glyphs.{shown, sanitized}
+use Rattle.glyphs.proofs.Walking.{count_step, written_step, overwritten_sets}
 use Rattle.glyphs.proofs.Cleaning.{sanitized_sized, sanitized-clean}
 use Rattle.glyphs.proofs.sanitize.Goals as goal
 
 pub loop-cut-preserved : goal.loop-cut-preserved
 loop-cut-preserved g c =
-    let m = g.R.Ruler.meaning c.args.ruler.now in
     let t = c.args.style in
-    let s = c.args.text.now in
-    let at = c.loop-cut.at in
-    let bs = c.in-Some.cut.bytes.now in
-    let w = c.in-Some.cut.width in
-    let told = c.in-Some.ensures in
-    let h = told.cases.0 in
-    let b = told.cases.1 in
-    let d = told.cases.2 in
-    let l = told.len in
+    let e = c.in-Some.ensures.steps in
     let p = c.args.from + c.loop-cut.written in
     let k = c.fill-written.result in
-    let q = c.args.from + (c.loop-cut.written + k) in
-    let hs = c.fill-written.new.glyphs in
-    let n = count_step m t s bs at w h b d l in (
-      omega (arith, told.bound),
+    let n = count_step t (piece c.in-Some.cut) _ _ e in (
       c.fill-written.auto.glyphs ∙ c.loop-cut.auto.glyphs,
       omega arith,
-      written_step m t s bs at w h b d l c.loop-cut.glyphs hs p k q c.glyph_count-count.result c.glyph_of.result c.glyph_count-count.ensures.value c.glyph_of.ensures.value c.fill-written.ensures.after c.fill-written.ensures.value (omega arith)
-          ∙ c.loop-cut.invariant.3,
+      written_step t (piece c.in-Some.cut) _ _ e c.loop-cut.glyphs c.fill-written.new.glyphs p k (c.args.from + (c.loop-cut.written + k)) c.glyph_count-count.result c.glyph_of.result c.glyph_count-count.ensures.value c.glyph_of.ensures.value c.fill-written.ensures.after c.fill-written.ensures.value (omega arith)
+          ∙ c.loop-cut.invariant.2,
       omega arith,
     )
 
-pub returns : goal.returns
-returns g c =
+pub returns-clause-after : goal.returns-clause-after
+returns-clause-after g c =
     let m = g.R.Ruler.meaning c.args.ruler.now in
-    let t = c.args.style in
-    let s = c.args.text.now in
-    let z = sanitized-none m t s c.loop-cut.at c.in_default.ensures.cases in
-    record {
-      value = omega (arith, ap length z);
-      after = ap (λ l. sets c.loop-cut.glyphs (c.args.from + c.loop-cut.written) l) (sym z) ∙ c.loop-cut.invariant.3 ∙ sym (overwritten_sets c.args.glyphs.now c.args.from (sanitized m t s));
-      bound = sanitized_sized m t s;
-      clean = sanitized-clean m t s (λ i. search rules);
-    }
+    ap (λ l. sets c.loop-cut.glyphs (c.args.from + c.loop-cut.written) (flat_map (shown c.args.style) l)) (sym c.in-None.ensures.steps.0)
+    ∙ c.loop-cut.invariant.2
+    ∙ sym (overwritten_sets c.args.glyphs.now c.args.from (sanitized m c.args.style c.args.text.now))
+
+pub returns-clause-bound : goal.returns-clause-bound
+returns-clause-bound g c = sanitized_sized (g.R.Ruler.meaning c.args.ruler.now) c.args.style c.args.text.now
+
+pub returns-clause-clean : goal.returns-clause-clean
+returns-clause-clean g c = sanitized-clean (g.R.Ruler.meaning c.args.ruler.now) c.args.style c.args.text.now (λ i. search rules)

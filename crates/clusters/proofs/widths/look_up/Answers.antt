@@ -1,26 +1,19 @@
-use Rattle.std.proofs.Common.{sym, ◌∙◌, arith}
-use Rattle.std.proofs.lemmas.List.{at_drop_all}
-use Rattle.std.proofs.lemmas.Bool.Decides.{nat_tests}
-use Rattle.clusters.specs.Widths.{looked}
-use Rattle.clusters.proofs.Ranges.{looked_step}
+use Rattle.std.proofs.Common.{◌≡◌, ◌<◌, length, sym, rules, arith, ⊎_elim, ◌∙◌}
+use Rattle.std.proofs.lemmas.Bool.{cases_lt}
+use Rattle.std.proofs.lemmas.Fn.{always_returns_same}
+use Rattle.clusters.specs.Widths.{standing}
+use Rattle.clusters.proofs.Ranges.{standing_rises, looked_found, looked_missed}
 use Rattle.clusters.proofs.widths.look_up.Goals as goal
 
-pub returns-then-code-low : goal.returns-then-code-low
-returns-then-code-low c =
-    let e = looked_step c.args.ranges.now c.loop-low.low-index c.args.code c.loop-low-test.true in
-    grind (arith, nat_tests)
+pub returns-in-Ok : goal.returns-in-Ok
+returns-in-Ok c =
+    let h = c.in-Ok.ensures.position (standing c.args.code) (always_returns_same _ (λ a r. r ≡ standing c.args.code a.0.now) _ (λ a r q k. search rules)) in
+    let l : c.in-Ok.i < length c.args.ranges.now = c.in-Ok.ensures.bound in
+    record { value = sym (looked_found 0 c.args.code c.in-Ok.i c.args.ranges.now (0, 0, 0) c.requires l (h (0, 0, 0))) }
 
-pub returns-then-code-high : goal.returns-then-code-high
-returns-then-code-high c =
-    let e = looked_step c.args.ranges.now c.loop-low.low-index c.args.code c.loop-low-test.true in
-    grind (arith, nat_tests)
-
-pub loop-low-preserved : goal.loop-low-preserved
-loop-low-preserved c =
-    let e = looked_step c.args.ranges.now c.loop-low.low-index c.args.code c.loop-low-test.true in
-    grind (arith, nat_tests)
-
-pub returns : goal.returns
-returns c =
-    let e = at_drop_all (λ l. looked l c.args.code) c.args.ranges.now c.loop-low.low-index c.loop-low-test.false in
-    record { value = sym e ∙ c.loop-low.invariant }
+pub returns-in-Err : goal.returns-in-Err
+returns-in-Err c =
+    let h = c.in-Err.ensures.position (standing c.args.code) (always_returns_same _ (λ a r. r ≡ standing c.args.code a.0.now) _ (λ a r q k. search rules)) (standing_rises 0 c.args.code c.args.ranges.now c.requires) in
+    record {
+      value = sym (looked_missed c.args.code c.args.ranges.now (λ i d l e. ⊎_elim (λ b. absurd (let u = sym e ∙ h.0 i d (omega arith) b in cc)) (λ b. absurd (let u = sym e ∙ h.1 i d b l in cc)) (cases_lt i c.in-Err.field-0)));
+    }

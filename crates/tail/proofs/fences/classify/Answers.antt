@@ -1,4 +1,4 @@
-use Rattle.std.proofs.Common.{◌≡◌, ◌++◌, length, IsUtf8, sym, ap, ◌∙◌, arith, rules}
+use Rattle.std.proofs.Common.{◌≡◌, ◌++◌, length, sym, ap, ◌∙◌, arith}
 use lib.Utf8.{encode}
 use Rattle.std.specs.Str.Iter.{chars_rest}
 use Rattle.std.specs.Str.{chars}
@@ -9,15 +9,13 @@ use Rattle.tail.proofs.fences.classify.Goals as goal
 pub returns-in_default : goal.returns-in_default
 returns-in_default c =
     let t = c.trim_start-text in
-    let u : IsUtf8 c.args.line.now = search rules in
-    let e = trim_start_chars c.args.line.now t.result.now u t.utf8 t.ensures.value in
+    let e = trim_start_chars c.args.line.now t.result.now t.utf8 t.ensures.trim in
     class_empty (chars t.result.now) (decodes_none t.result.now (sym (ap length c.chars.ensures.rest) ∙ c.in_default.ensures.steps.0.0)) ∙ ap class_at e
 
 pub returns-in-124 : goal.returns-in-124
 returns-in-124 c =
     let t = c.trim_start-text in
-    let u : IsUtf8 c.args.line.now = search rules in
-    let e = trim_start_chars c.args.line.now t.result.now u t.utf8 t.ensures.value in
+    let e = trim_start_chars c.args.line.now t.result.now t.utf8 t.ensures.trim in
     let s : t.result.now ≡ encode c.in-Some.first ++ chars_rest c.next.new.self = sym c.chars.ensures.rest ∙ c.in-Some.ensures.steps.0 in
     let f = step_chars t.result.now (chars_rest c.next.new.self) c.in-Some.first t.utf8 s in
     let x = chars t.result.now in
@@ -27,8 +25,7 @@ returns-in-124 c =
 pub returns-in-96 : goal.returns-in-96
 returns-in-96 c =
     let t = c.trim_start-text in
-    let u : IsUtf8 c.args.line.now = search rules in
-    let e = trim_start_chars c.args.line.now t.result.now u t.utf8 t.ensures.value in
+    let e = trim_start_chars c.args.line.now t.result.now t.utf8 t.ensures.trim in
     let s : t.result.now ≡ encode c.in-Some.first ++ chars_rest c.next.new.self = sym c.chars.ensures.rest ∙ c.in-Some.ensures.steps.0 in
     let f = step_chars t.result.now (chars_rest c.next.new.self) c.in-Some.first t.utf8 s in
     let x = chars t.result.now in
@@ -38,8 +35,7 @@ returns-in-96 c =
 pub returns-in-126 : goal.returns-in-126
 returns-in-126 c =
     let t = c.trim_start-text in
-    let u : IsUtf8 c.args.line.now = search rules in
-    let e = trim_start_chars c.args.line.now t.result.now u t.utf8 t.ensures.value in
+    let e = trim_start_chars c.args.line.now t.result.now t.utf8 t.ensures.trim in
     let s : t.result.now ≡ encode c.in-Some.first ++ chars_rest c.next.new.self = sym c.chars.ensures.rest ∙ c.in-Some.ensures.steps.0 in
     let f = step_chars t.result.now (chars_rest c.next.new.self) c.in-Some.first t.utf8 s in
     let x = chars t.result.now in
@@ -49,8 +45,7 @@ returns-in-126 c =
 pub returns-in_default-first : goal.returns-in_default-first
 returns-in_default-first c =
     let t = c.trim_start-text in
-    let u : IsUtf8 c.args.line.now = search rules in
-    let e = trim_start_chars c.args.line.now t.result.now u t.utf8 t.ensures.value in
+    let e = trim_start_chars c.args.line.now t.result.now t.utf8 t.ensures.trim in
     let s : t.result.now ≡ encode c.in-Some.first ++ chars_rest c.next.new.self = sym c.chars.ensures.rest ∙ c.in-Some.ensures.steps.0 in
     let f = step_chars t.result.now (chars_rest c.next.new.self) c.in-Some.first t.utf8 s in
     let x = chars t.result.now in

@@ -1,4 +1,4 @@
-use Rattle.std.proofs.Common.{ℕ, cond, not, List, [], ◌∷◌, ◌++◌, length, take, Some, None, IsUtf8, Option, sym, refl, ap, ◌∙◌, arith, rules}
+use Rattle.std.proofs.Common.{ℕ, cond, not, List, [], ◌∷◌, ◌++◌, Some, None, IsUtf8, Option, sym, ap, ◌∙◌, rules}
 use lib.Utf8.{encodes}
 use Rattle.std.specs.Option.{option_map}
 use Rattle.std.specs.Str.{chars}
@@ -14,5 +14,5 @@ returns c =
     let u : IsUtf8 c.args.text.now = search rules in
     let h = chars c.args.header.now in
     let alone = sym c.lone_pipe.ensures ∙ c.if-lone_pipe.false in
-    let row = ap (λ n. take (length bs) bs ++ (cond (not c.args.ended) (10 ∷ []) [] ++ delimiter_row n)) c.cell_count.ensures.value ∙ bytes_appended bs c.args.ended (length bs) (cell_count h) u c.requires refl in
-    record { value = ap (λ (l : List ℕ). Some l) row ∙ sym (ap (option_map encodes) (cond-false {A = Option (List ℕ)} (lone_pipe h) None (Some (appended (cell_count h) (chars bs))) alone)); bound = omega arith }
+    let row = ap (λ n. bs ++ (cond (not c.ended.result) (10 ∷ []) [] ++ delimiter_row n)) c.cell_count.ensures.value ∙ bytes_appended bs c.ended.result (cell_count h) u c.ended.ensures in
+    ap (λ (l : List ℕ). Some l) row ∙ sym (ap (option_map encodes) (cond-false {A = Option (List ℕ)} (lone_pipe h) None (Some (appended (cell_count h) (chars bs))) alone))

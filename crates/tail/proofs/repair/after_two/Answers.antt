@@ -1,4 +1,4 @@
-use Rattle.std.proofs.Common.{◌≡◌, ℕ, true, not, List, ◌++◌, take, Some, sym, ap, ◌∙◌}
+use Rattle.std.proofs.Common.{◌≡◌, ℕ, true, not, List, ◌++◌, Some, sym, ap, ◌∙◌}
 use lib.Utf8.{encodes}
 use Rattle.std.specs.Option.{option_map}
 use Rattle.std.specs.Str.{chars}
@@ -15,6 +15,6 @@ returns c =
     let alone = sym c.lone_pipe.ensures ∙ c.if-lone_pipe.false in
     let open' = sym (ap (λ k. complete k l) n) ∙ (sym c.complete.ensures ∙ c.if-complete.false) in
     let on : unfinished (chars c.args.line.now) ≡ true = sym c.delimiter_charset.ensures ∙ c.if-not-delimiter_charset.false in
-    let off = ap not (sym c.requires ∙ c.if-ended.false) in
-    let row = ap (λ k. take c.last_line.result bs ++ delimiter_row k) n ∙ bytes_replaced bs c.last_line.result (cell_count h) c.last_line.ensures.value in
-    record { value = ap (λ (x : List ℕ). Some x) row ∙ sym (ap (option_map encodes) (two_lines h l (chars bs) alone open' on off)); bound = c.last_line.ensures.bound }
+    let off = ap not (sym c.ended.ensures ∙ c.if-ended.false) in
+    let row = ap (λ k. c.without_last_line.result.now ++ delimiter_row k) n ∙ bytes_replaced bs c.without_last_line.result.now (cell_count h) c.without_last_line.ensures in
+    ap (λ (x : List ℕ). Some x) row ∙ sym (ap (option_map encodes) (two_lines h l (chars bs) alone open' on off))

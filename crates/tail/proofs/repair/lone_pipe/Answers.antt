@@ -10,4 +10,4 @@ pub returns : goal.returns
 returns c =
     let t = c.trim in
     let u : IsUtf8 c.args.line.now = search rules in
-    lone_by t.result.now c.eq.result t.utf8 (Decides-at c.eq.result (bytes_eq t.result.now (124 ∷ [])) c.eq.ensures (bytes_eq-Decides t.result.now (124 ∷ []))) ∙ ap (λ l. bytes_eq l (124 ∷ [])) (trim_chars c.args.line.now t.result.now u t.utf8 t.ensures.value)
+    lone_by t.result.now c.eq.result t.utf8 (Decides-at c.eq.result (bytes_eq t.result.now (124 ∷ [])) c.eq.ensures (bytes_eq-Decides t.result.now (124 ∷ []))) ∙ ap (λ l. bytes_eq l (124 ∷ [])) (trim_chars c.args.line.now t.result.now u t.utf8 t.ensures.trim)

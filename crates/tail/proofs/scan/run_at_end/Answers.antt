@@ -1,4 +1,4 @@
-use Rattle.std.proofs.Common.{◌≡◌, true, cond, [], ◌∷◌, ◌++◌, IsUtf8, sym, refl, ap, ◌∙◌, subst, rules}
+use Rattle.std.proofs.Common.{◌≡◌, true, cond, [], ◌∷◌, ◌++◌, IsUtf8, sym, refl, ap, ◌∙◌, subst, rules, None, Option, lit<}
 use Rattle.std.specs.Str.Pattern.{FindsChar, IsSplitAtFirstMatch}
 use Rattle.std.specs.Str.Iter.{split_text, split_has_more, split_pattern}
 use Rattle.std.specs.Str.{chars}
@@ -6,8 +6,7 @@ use Rattle.tail.specs.Lines.{lines_of}
 use Rattle.tail.specs.Fences.{belongs}
 use Rattle.tail.specs.Scanning.{Holds}
 use Rattle.tail.specs.declared.fences.Fence.{Fence}
-use Rattle.tail.specs.declared.fences.Fence.TheVariants.{Absent}
-use Rattle.tail.proofs.Splits.{finished, lines_left, split_step, finish_none, finish_end, finish_step}
+use Rattle.tail.proofs.Splits.{finished, parts_left, split_step, finish_none, finish_end, finish_step}
 use Rattle.tail.proofs.scan.run_at_end.Goals as goal
 
 pub loop-line-init : goal.loop-line-init
@@ -18,7 +17,7 @@ loop-line-init c =
     let k : split_pattern i ≡ 10 = search rules in
     let e : split_text i ≡ t = search rules in
     let v : split_has_more i ≡ true = search rules in
-    (tt, tt, k, (λ _. subst IsUtf8 (sym e) u), tt, ([], refl, ap (λ b. finished Absent [] (lines_left b (split_text i))) v ∙ (ap (λ w. finished Absent [] (lines_of (chars w))) e ∙ finish_none Absent (lines_of (chars t)))))
+    (tt, tt, k, (λ _. subst IsUtf8 (sym e) u), tt, ([], refl, ap (λ b. finished None [] (parts_left 10 b (split_text i))) v ∙ (ap (λ w. finished None [] (lines_of (chars w))) e ∙ finish_none None (lines_of (chars t)))))
 
 pub loop-line-preserved : goal.loop-line-preserved
 loop-line-preserved c =
@@ -33,10 +32,9 @@ loop-line-preserved c =
     let new = cond (belongs f l) (run ++ (l ∷ [])) [] in
     let live = sym h.0 in
     let u = inv.3 live in
-    let v : IsUtf8 c.in-Some.line.now = search rules in
     let p = subst (λ d. IsSplitAtFirstMatch (FindsChar d) (split_text s) x (split_has_more t) (split_text t)) inv.2 h.1.1 in
-    let k = split_step (split_text s) x (split_text t) u v (split_has_more t) p in
-    let left = lines_left (split_has_more t) (split_text t) in (
+    let k = split_step 10 (lit< tt) (split_text s) x (split_text t) u (split_has_more t) p in
+    let left = parts_left 10 (split_has_more t) (split_text t) in (
       tt,
       tt,
       h.1.0 ∙ inv.2,
@@ -45,8 +43,8 @@ loop-line-preserved c =
       (
         new,
         c.read-scanner.ensures.run run inv.5.1,
-        ap (λ (g : Fence). finished g new left) c.read-scanner.ensures.fence ∙ (sym (finish_step f run l left)
-            ∙ (ap (finished f run) (sym (ap (λ b. lines_left b (split_text s)) live ∙ k.0)) ∙ inv.5.2)),
+        ap (λ (g : Option Fence). finished g new left) c.read-scanner.ensures.fence ∙ (sym (finish_step f run l left)
+            ∙ (ap (finished f run) (sym (ap (λ b. parts_left 10 b (split_text s)) live ∙ k.0)) ∙ inv.5.2)),
       ),
     )
 
@@ -57,4 +55,4 @@ returns c =
     let dead = sym c.in-None.ensures.steps.0 in
     let f = c.loop-line.scanner.fence in
     let run = inv.5.0 in
-    subst (Holds c.loop-line.scanner.run) (sym (ap (λ b. finished f run (lines_left b (split_text s))) dead ∙ finish_end f run) ∙ inv.5.2) inv.5.1
+    subst (Holds c.loop-line.scanner.run) (sym (ap (λ b. finished f run (parts_left 10 b (split_text s))) dead ∙ finish_end f run) ∙ inv.5.2) inv.5.1

@@ -1,12 +1,10 @@
-use Rattle.std.proofs.Common.{◌≡◌, ℕ, true, List, IsUtf8}
+use Rattle.std.proofs.Common.{◌≡◌, ℕ, true, List, None, IsUtf8}
 use Rattle.std.specs.Str.Iter.{split_text, split_has_more, split_pattern}
 use Rattle.std.specs.Str.{chars}
 use Rattle.tail.specs.Lines.{lines_of}
 use Rattle.tail.specs.Fences.{run_at_end}
-use Rattle.tail.specs.Scanning.{Sound}
-use Rattle.tail.specs.Scanning.{Holds}
-use Rattle.tail.specs.declared.fences.Fence.TheVariants.{Absent}
-use Rattle.tail.proofs.Splits.{finished, lines_left}
+use Rattle.tail.specs.Scanning.{Sound, Holds}
+use Rattle.tail.proofs.Splits.{finished, parts_left}
 use Rattle.tail.proofs.scan.run_at_end.Given as goal
 
 abbrev pub invariant-loop-line : goal.invariant-loop-line
@@ -16,4 +14,4 @@ invariant-loop-line l =
     × (split_has_more l.line-iterator ≡ true → IsUtf8 (split_text l.line-iterator))
     × Sound l.scanner.fence
     × ((run : List (List ℕ)) × Holds l.scanner.run run
-    × (finished l.scanner.fence run (lines_left (split_has_more l.line-iterator) (split_text l.line-iterator)) ≡ run_at_end Absent (lines_of (chars l.text))))
+    × (finished l.scanner.fence run (parts_left 10 (split_has_more l.line-iterator) (split_text l.line-iterator)) ≡ run_at_end None (lines_of (chars l.text))))

@@ -1,7 +1,0 @@
-use Rattle.std.proofs.Common.{ℕ, ◌<◌, ◌≤◌, length, get_or}
-use Rattle.columns.proofs.find_widest.Given as goal
-
-abbrev pub invariant-loop-i : goal.invariant-loop-i
-invariant-loop-i l = (l.best < length l.widths)
-    × ((k : ℕ) → k < l.i → get_or l.widths k 0 ≤ get_or l.widths l.best 0)
-    × ((k : ℕ) → l.best < k → k < l.i → get_or l.widths k 0 < get_or l.widths l.best 0)
