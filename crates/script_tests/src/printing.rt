@@ -2,6 +2,7 @@
 use columns::{ColumnLayout, share_columns};
 use script::{answer_line, columns_line};
 use std::alloc::Global;
+use std::fmt::Display;
 use std::process::Abort;
 use std::test::Fail;
 use words::{Fault, Trouble};
@@ -25,14 +26,13 @@ fn tells(rt: &impl Abort, heap: Global, width: u16, count: u8, expected: &str) -
     Ok(())
 }
 
-fn tells_trouble(
+fn says(
     rt: &impl Abort,
     heap: Global,
-    line: u64,
-    fault: Fault,
+    value: impl Display + Drop,
     expected: &str,
 ) -> Result<(), Fail> {
-    assert_eq!(rt; Trouble { line, fault }.to_string(heap)?.as_str(), expected);
+    assert_eq!(rt; value.to_string(heap)?.as_str(), expected);
     Ok(())
 }
 
@@ -99,25 +99,16 @@ fn a_table_without_columns_is_answered_as_one_column(rt: HostRuntime) -> Result<
 #[test]
 fn a_line_that_cannot_be_read_is_told_by_number_and_words(rt: HostRuntime) -> Result<(), Fail> {
     let heap = rt.alloc();
-    tells_trouble(
-        &rt,
-        heap,
-        1,
-        Fault::UnknownCommand,
-        "line 1: unknown command",
-    )?;
-    tells_trouble(
-        &rt,
-        heap,
-        u64::MAX,
-        Fault::TooWide,
-        "line 18446744073709551615: too wide",
-    )
-}
-
-fn says(rt: &impl Abort, heap: Global, fault: Fault, expected: &str) -> Result<(), Fail> {
-    assert_eq!(rt; fault.to_string(heap)?.as_str(), expected);
-    Ok(())
+    let first = Trouble {
+        line: 1,
+        fault: Fault::UnknownCommand,
+    };
+    let last = Trouble {
+        line: u64::MAX,
+        fault: Fault::TooWide,
+    };
+    says(&rt, heap, first, "line 1: unknown command")?;
+    says(&rt, heap, last, "line 18446744073709551615: too wide")
 }
 
 #[test]

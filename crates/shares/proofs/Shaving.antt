@@ -1,15 +1,10 @@
 -- What cells taken one by one leave: lengths, the floor of 1, and the sum.
 use Rattle.std.proofs.Common.{◌≡◌, ℕ, zero, suc, ◌+◌, ◌-◌, ◌<◌, ◌≤◌, max, Bool, true, false, cond, leb, ◌≢◌, List, [], ◌∷◌, length, get_or, set, sum, sym, refl, ap, ◌∙◌, subst, ⊎_elim, add-zero, add-suc, add-one, arith}
 use Rattle.std.proofs.lemmas.List.{length-set, get_or-set_same, get_or-set_other, set-get_or, get_or_past}
-use Rattle.std.proofs.lemmas.List.Sums.{sum_by-set, sum_by-cons}
+use Rattle.std.proofs.lemmas.List.Sums.{sum_by-set, sum_by-cons, sum_by-le}
+use Rattle.std.proofs.lemmas.List.Elements.{All-from_get_or}
 use Rattle.std.proofs.lemmas.Bool.{cases_lt, cases_eq, cond_both, leb-true, leb-false, ltb-true, ltb-false, cases_order}
 use Rattle.shares.specs.Shares.{widest, lowered, shaved, Fed, Lowers}
-
-pub widest_more : (n : ℕ) (ws : List ℕ) → widest (n + 1) ws ≡ cond (leb (get_or ws (widest n ws) 0) (get_or ws n 0)) n (widest n ws)
-widest_more n ws = rw add-one
-
-pub shaved_more : (k : ℕ) (ws : List ℕ) → shaved (k + 1) ws ≡ lowered (shaved k ws)
-shaved_more k ws = rw add-one
 
 -- the widest of some columns is one of them
 widest_below : (n : ℕ) (ws : List ℕ) → widest n ws ≤ n - 1
@@ -100,12 +95,9 @@ sum_fed (w ∷ ws) fed = omega (arith, sum_by-cons (λ x. x) w ws, fed 0 (omega 
 pub spare : (ws : List ℕ) → 1 < get_or ws (widest (length ws) ws) 0 → Fed ws → length ws < sum ws
 spare ws h fed = omega (arith, sum-lowered ws h, length-lowered ws, sum_fed (lowered ws) (fed_lowered ws fed))
 
-sum_ones : (ws : List ℕ) → ((i : ℕ) → i < length ws → get_or ws i 0 ≤ 1) → sum ws ≤ length ws
-sum_ones [] one = omega arith
-sum_ones (w ∷ ws) one = omega (arith, sum_by-cons (λ x. x) w ws, one 0 (omega arith), sum_ones ws (λ i h. one (suc i) (omega arith)))
-
 pub spent : (ws : List ℕ) → get_or ws (widest (length ws) ws) 0 ≤ 1 → sum ws ≤ length ws
-spent ws h = sum_ones ws (λ i l. omega (arith, widest_most (length ws) ws i l))
+spent ws h =
+    omega (arith, sum_by-le (λ x. x) 1 ws (All-from_get_or (λ x. x ≤ 1) ws 0 (λ i l. omega (arith, widest_most (length ws) ws i l))))
 
 -- the total after k steps: one less for each, but never less than one for each column
 pub sum-shaved : (k : ℕ) (ws : List ℕ) → Fed ws → 0 < length ws → sum (shaved k ws) ≡ max (sum ws - k) (length ws)
@@ -150,14 +142,11 @@ lowers_none ws vs fed (w, h, most, right, gone, after) =
 
 -- a loop that takes cells one by one: one step more, and where there is none to take, all the steps that are left
 pub shaved_step : (ws vs us : List ℕ) (k : ℕ) → vs ≡ shaved k ws → Lowers vs true us → us ≡ shaved (k + 1) ws
-shaved_step ws vs us k now step = (lowers_one vs us step).0 ∙ (ap lowered now ∙ sym (shaved_more k ws))
-
-pub fed_at : (ws vs : List ℕ) (k : ℕ) → Fed ws → vs ≡ shaved k ws → Fed vs
-fed_at ws vs k fed now = subst Fed (sym now) (fed_shaved k ws fed)
+shaved_step ws vs us k now step = (lowers_one vs us step).0 ∙ (ap lowered now ∙ ap (λ n. shaved n ws) (sym (add-one k)))
 
 pub shaved_stop : (ws vs us : List ℕ) (k n : ℕ) → Fed ws → vs ≡ shaved k ws → Lowers vs false us → k ≤ n → us ≡ shaved n ws
 shaved_stop ws vs us k n fed now step le =
-    let none = lowers_none vs us (fed_at ws vs k fed now) step in
+    let none = lowers_none vs us (subst Fed (sym now) (fed_shaved k ws fed)) step in
     let low = subst (λ (xs : List ℕ). get_or xs (widest (length xs) xs) 0 ≡ 1) now none.1 in
     let rest : k + (n - k) ≡ n = omega arith in
     none.0 ∙ (now ∙ (sym (shaved_floor k (n - k) ws low) ∙ ap (λ m. shaved m ws) rest))

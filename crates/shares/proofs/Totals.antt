@@ -1,7 +1,8 @@
 -- Lengths and sums of natural and final widths.
-use Rattle.std.proofs.Common.{◌≡◌, ℕ, zero, suc, ◌+◌, ◌-◌, ◌*◌, ◌<◌, ◌≤◌, max, Bool, ltb, List, [], ◌∷◌, map, length, get_or, sum, refl, ⊎_elim, suc-mul, arith}
+use Rattle.std.proofs.Common.{◌≡◌, ℕ, zero, suc, ◌+◌, ◌-◌, ◌*◌, ◌<◌, ◌≤◌, max, Bool, ltb, List, [], ◌∷◌, length, get_or, sum, refl, ⊎_elim, arith}
 use Rattle.std.proofs.lemmas.List.{length-set, length-map, get_or-map, get_or_past}
-use Rattle.std.proofs.lemmas.List.Sums.{sum_by-set, sum_by-cons, get_or-le-sum_by}
+use Rattle.std.proofs.lemmas.List.Sums.{sum_by-set, sum_by-le, sum-map, get_or-le-sum_by}
+use Rattle.std.proofs.lemmas.List.Elements.{All-from_get_or}
 use Rattle.std.proofs.lemmas.Bool.{cases_lt, cond_both, ltb-true, ltb-false}
 use Rattle.shares.specs.Shares.{naturals, shared, Fed}
 use Rattle.shares.proofs.Shaving.{length-shaved, sum-shaved}
@@ -17,16 +18,11 @@ fed_naturals [] (suc i) h = absurd (omega arith)
 fed_naturals (n ∷ ns) i h = omega (arith, get_or-map (max 1) (n ∷ ns) i 0 0 (omega (arith, length-map (n ∷ ns) (max 1))))
 
 -- columns of at most m cells need at most m for each
-sum_most : (m : ℕ) (ns : List ℕ) → 1 ≤ m → ((i : ℕ) → i < length ns → get_or ns i 0 ≤ m) → sum (map (max 1) ns) ≤ length ns * m
-sum_most m [] one most = omega arith
-sum_most m (n ∷ ns) one most =
-    omega (arith, sum_by-cons (λ x. x) (max 1 n) (map (max 1) ns), suc-mul (length ns) m, most 0 (omega arith), sum_most m ns one (λ i h. most (suc i) (omega arith)))
-
 pub sum-naturals : (m : ℕ) (ns : List ℕ) → 1 ≤ m → ((i : ℕ) → i < length ns → get_or ns i 0 ≤ m) → sum (naturals ns) ≤ max (length ns) 1 * m
 sum-naturals m [] one most = omega arith
 sum-naturals m (n ∷ ns) one most =
     let some : max (length (n ∷ ns)) 1 ≡ length (n ∷ ns) = omega arith in
-    rw some (sum_most m (n ∷ ns) one most)
+    rw (some, sum-map) (sum_by-le (max 1) m (n ∷ ns) (All-from_get_or (λ x. max 1 x ≤ m) (n ∷ ns) 0 (λ i h. omega (arith, most i h))))
 
 pub length-shared : (b : ℕ) (growing : Bool) (ns : List ℕ) → length (shared b growing ns) ≡ length ns
 length-shared b growing ns =

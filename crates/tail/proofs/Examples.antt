@@ -1,7 +1,7 @@
 -- The worked examples, by evaluation.
 use Rattle.std.proofs.Common.{◌≡◌, [], ◌∷◌, ◌++◌, codes, refl}
 use lib.Utf8.{encode}
-use Rattle.std.specs.Str.{chars}
+use Rattle.std.specs.Str.{chars, is_utf8}
 use Rattle.tail.specs.Cook.{cooked, valid_length}
 use Rattle.tail.specs.Entries.{cell_count}
 
@@ -17,5 +17,5 @@ escaped : cell_count (124 ∷ 97 ∷ 92 ∷ 92 ∷ 124 ∷ []) ≡ 1
 escaped = refl
 
 valid : valid_length (97 ∷ 195 ∷ []) ≡ 1
-unfolding chars encode
+unfolding chars encode is_utf8
 valid = refl

@@ -8,7 +8,6 @@ mod Repairs
 mod Pastes
 mod Splits
 mod Steps
-mod Classes
 mod Marks
 mod Rows
 mod Pieces

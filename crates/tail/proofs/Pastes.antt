@@ -38,10 +38,6 @@ module _ (d : List ℕ) (at : ℕ) where
       ∙ (paste-paste d at (dashes n) column (4 * n) 4 (sym (length-dashes n)) refl h
       ∙ (ap (λ l. paste d at l (4 * n + 4)) (dashes_more n) ∙ ap (paste d at (dashes (n + 1))) (let w : 4 * n + 4 ≡ 4 * (n + 1) = omega arith in w)))))
 
--- the pipe in front and then the columns are a row
-pub row_pasted : (d : List ℕ) (at n : ℕ) → at < length d → paste (set d at 124) (at + 1) (dashes n) (4 * n) ≡ paste d at (delimiter_row n) (1 + 4 * n)
-row_pasted d at n h = ap (λ l. paste l (at + 1) (dashes n) (4 * n)) (paste_one d at 124 h) ∙ paste-paste d at (124 ∷ []) (dashes n) 1 (4 * n) refl (sym (length-dashes n)) (omega arith)
-
 -- a text at the front of the output, grown by another behind it
 module _ (out : List ℕ) where
   pub front_more : (x s t : List ℕ) (at m : ℕ) → x ≡ paste out 0 s at → at ≡ length s → m ≡ length t → paste x at t m ≡ paste out 0 (s ++ t) (at + m)

@@ -1,17 +1,17 @@
 -- What a repair of characters is in bytes.
-use Rattle.std.proofs.Common.{◌≡◌, ℕ, zero, suc, ◌+◌, ◌-◌, ◌≤◌, Bool, true, false, cond, not, ◌&&◌, eqb, List, [], ◌∷◌, ◌++◌, length, take, drop, Some, None, IsUtf8, Decides, MatchBool, Option, sym, refl, ap, ◌∙◌, true≢false, append_assoc, arith, lit<}
+use Rattle.std.proofs.Common.{◌≡◌, ℕ, zero, suc, ◌+◌, ◌-◌, ◌≤◌, Bool, true, false, cond, not, eqb, List, [], ◌∷◌, ◌++◌, length, take, drop, Some, None, IsUtf8, Decides, MatchBool, sym, refl, ap, ◌∙◌, true≢false, append_assoc, arith, lit<}
 use lib.Utf8.{encode, encodes}
 use Rattle.std.specs.Str.Pattern.{RFindsChar, FindsCharSuffix}
 use Rattle.std.specs.Str.{NonePass, IsCharBoundary, chars, bytes_eq}
 use Rattle.std.proofs.lemmas.Slice.Eq.{bytes_eq-Decides}
 use Rattle.std.proofs.lemmas.List.{append-nil, take-append-drop, take_at, length-append, length-take-le}
 use Rattle.std.proofs.lemmas.Str.Pattern.{ends_char}
-use Rattle.std.proofs.lemmas.Bool.{cond-true, cond-false, not_from_false, and_from}
+use Rattle.std.proofs.lemmas.Bool.{not_from_false, and_from}
 use Rattle.std.proofs.lemmas.Str.{encodes-append, encodes-chars, chars_from_encodes, encode_ascii, IsUtf8-take, len_utf8_ascii}
 use Rattle.std.proofs.lemmas.Bool.Decides.{same_from_decides, Decides-like}
 use Rattle.tail.specs.Texts.{all, is, ends_with}
-use Rattle.tail.specs.Entries.{dashes, delimiter_row, cell_count, complete, unfinished}
-use Rattle.tail.specs.Cook.{lone_pipe, line_end, appended, replaced, without_last_line, repaired_by}
+use Rattle.tail.specs.Entries.{dashes, delimiter_row}
+use Rattle.tail.specs.Cook.{line_end, appended, replaced, without_last_line}
 use Rattle.tail.proofs.Spelling.{decodes_cut_back}
 use Rattle.tail.proofs.Trims.{before_end, before-all}
 use Rattle.tail.proofs.Ends.{chars_last, chars_not_last, ends_with-push}
@@ -90,17 +90,3 @@ bytes_appended bs b n u e =
 pub bytes_replaced : (bs kept : List ℕ) (n : ℕ) → kept ≡ encodes (without_last_line (chars bs)) → kept ++ delimiter_row n ≡ encodes (replaced n (chars bs))
 bytes_replaced bs kept n e =
     sym (encodes-append (without_last_line (chars bs)) (delimiter_row n) ∙ (ap (λ x. x ++ encodes (delimiter_row n)) (sym e) ∙ ap (λ x. kept ++ x) (encodes_row n)))
-
--- three lines or more stay
-pub three_stay : (ls : List (List ℕ)) (cs : List ℕ) → 3 ≤ length ls → repaired_by ls cs ≡ None
-three_stay [] cs h = absurd (omega arith)
-three_stay (a ∷ []) cs h = absurd (omega arith)
-three_stay (a ∷ b ∷ []) cs h = absurd (omega arith)
-three_stay (a ∷ b ∷ c ∷ ls) cs h = refl
-
--- the second of two lines is replaced
-pub two_lines : (h l cs : List ℕ) → lone_pipe h ≡ false → complete (cell_count h) l ≡ false → unfinished l ≡ true → not (ends_with 10 cs) ≡ true → repaired_by (h ∷ l ∷ []) cs ≡ Some (replaced (cell_count h) cs)
-two_lines h l cs a b c d =
-    let last = cond {A = Option (List ℕ)} (unfinished l && not (ends_with 10 cs)) (Some (replaced (cell_count h) cs)) None in
-    cond-false {A = Option (List ℕ)} (lone_pipe h) None (cond (complete (cell_count h) l) None last) a
-    ∙ (cond-false {A = Option (List ℕ)} (complete (cell_count h) l) None last b ∙ cond-true {A = Option (List ℕ)} (unfinished l && not (ends_with 10 cs)) (Some (replaced (cell_count h) cs)) None (and_from (unfinished l) (not (ends_with 10 cs)) c d))

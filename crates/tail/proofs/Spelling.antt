@@ -58,13 +58,7 @@ trim_chars bs t u v e =
     sym (chars_from_encodes (drop_trailing_whitespace (chars (trim_start bs))) t v (sym e))
     ∙ (before-drop (chars (trim_start bs)) ∙ ap (before is_whitespace) (trim_start_chars bs (trim_start bs) (utf8_skip bs u) refl))
 
--- one character of a walk: s is what was left, and t what is left behind the character c
-pub step_chars : (s t : List ℕ) (c : ℕ) → IsUtf8 s → s ≡ encode c ++ t → chars s ≡ c ∷ chars t
-step_chars s t c u e = chars_past_char s t c u e
-
-pub step_utf8 : (s t : List ℕ) (c : ℕ) → IsUtf8 s → s ≡ encode c ++ t → IsUtf8 t
-step_utf8 s t c u e = IsUtf8-past_char s t c u e
-
+-- a character takes a byte at least
 pub step_length : (s t : List ℕ) (c : ℕ) → s ≡ encode c ++ t → length t + 1 ≤ length s
 step_length s t c e = omega (arith, ap length e, length-append (encode c) t, length-encode c, (len_utf8_bounds c).0)
 
@@ -110,3 +104,15 @@ utf8_tail d s t low u e = IsUtf8-past_char s t d u (e ∙ ap (λ l. l ++ t) (sym
 
 pub encodes_push : (cs : List ℕ) (c : ℕ) → encodes (cs ++ (c ∷ [])) ≡ encodes cs ++ encode c
 encodes_push cs c = encodes-append cs (c ∷ []) ∙ ap (λ l. encodes cs ++ l) (append-nil (encode c))
+
+-- what `trim_start` leaves begins with the character x
+pub first_char : (line t rest : List ℕ) (x : ℕ) → IsUtf8 t → t ≡ trim_start line → t ≡ encode x ++ rest → past is_whitespace (chars line) ≡ x ∷ chars rest
+first_char line t rest x u e f = sym (trim_start_chars line t u e) ∙ chars_past_char t rest x u f
+
+past-empty : (p : ℕ → Bool) (cs : List ℕ) → eqb (length (past p cs)) 0 ≡ all p cs
+past-empty p [] = refl
+past-empty p (c ∷ cs) = elim (p c) as (λ b. eqb (length (cond b (past p cs) (c ∷ cs))) 0 ≡ (b && all p cs)) [ true ↦ past-empty p cs | false ↦ ne_eqb (suc (length cs)) 0 (λ q. omega arith) ]
+
+-- a text is blank if `trim_start` leaves nothing
+pub blank_text : (bs r : List ℕ) → IsUtf8 r → r ≡ trim_start bs → eqb (length r) 0 ≡ all is_whitespace (chars bs)
+blank_text bs r v h = same_empty r v ∙ (ap (λ l. eqb (length l) 0) (trim_start_chars bs r v h) ∙ past-empty is_whitespace (chars bs))

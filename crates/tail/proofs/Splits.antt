@@ -79,9 +79,6 @@ pub finish_none : (f : Option Fence) (ls : List (List ℕ)) → finished f [] ls
 finish_none f [] = refl
 finish_none f (l ∷ ls) = elim (belongs f l && all_belong (fence_below f l) ls) as (λ b. cond b (l ∷ ls) (cond b (l ∷ ls) (run_at_end (fence_below f l) ls)) ≡ cond b (l ∷ ls) (run_at_end (fence_below f l) ls)) [ true ↦ refl | false ↦ refl ]
 
-pub finish_end : (f : Option Fence) (run : List (List ℕ)) → finished f run [] ≡ run
-finish_end f run = append-nil run
-
 finish_by : (f : Option Fence) (run : List (List ℕ)) (l : List ℕ) (ls : List (List ℕ)) (b : Bool) → cond (b && all_belong f ls) (run ++ (l ∷ ls)) (cond (b && all_belong f ls) (l ∷ ls) (run_at_end f ls)) ≡ finished f (cond b (run ++ (l ∷ [])) []) ls
 finish_by f run l ls true = elim (all_belong f ls) as (λ a. cond a (run ++ (l ∷ ls)) (cond a (l ∷ ls) (run_at_end f ls)) ≡ cond a ((run ++ (l ∷ [])) ++ ls) (run_at_end f ls)) [ true ↦ sym (append_assoc run (l ∷ []) ls) | false ↦ refl ]
 finish_by f run l ls false = sym (finish_none f ls)

@@ -8,10 +8,14 @@ use Rattle.tail.specs.Fences.{sign, may_follow, opens, closes, fence, fence_belo
 use Rattle.tail.specs.Scanning.{mark_class, class_of, Sound, stepped}
 use Rattle.tail.specs.declared.fences.Mark.{Mark}
 use Rattle.tail.specs.declared.fences.Mark.TheVariants.{Backtick, Tilde}
+use Rattle.tail.specs.declared.fences.Class.{Class}
 use Rattle.tail.specs.declared.fences.Class.TheVariants.{Pipe, Bare, Info, Other}
 use Rattle.tail.specs.declared.fences.Fence.{Fence}
-use Rattle.tail.proofs.Classes.{class_at}
 use Rattle.tail.proofs.Marks.{leading_none}
+
+-- the class of a line by what follows its leading white space
+abbrev class_at : List ℕ → Class
+class_at t = cond (starts_with 124 t) Pipe (cond (starts_with 96 t) (mark_class Backtick t) (cond (starts_with 126 t) (mark_class Tilde t) Other))
 
 -- the marks at the front of t, and what is behind them
 abbrev count : Mark → List ℕ → ℕ

@@ -1,8 +1,8 @@
 -- What becomes of a source whose last lines may be a table in progress.
 use Rattle.std.specs.Prelude.{ℕ, zero, suc, Bool, cond, not, ◌&&◌, List, [], ◌∷◌, ◌++◌, length, take, drop, Some, None, Ok, Err, Option, Result, nat_le, codes, decimal}
-use Rattle.std.proofs.Math.Utf8.{scalars, encodes}
+use Rattle.std.proofs.Math.Utf8.{encodes}
 use Rattle.std.specs.Option.{unwrap_or, option_map}
-use Rattle.std.specs.Str.{chars, bytes_eq}
+use Rattle.std.specs.Str.{chars, bytes_eq, is_utf8}
 use Rattle.tail.specs.Texts.{is, before, trimmed, ends_with, without_last}
 use Rattle.tail.specs.Lines.{lines_of}
 use Rattle.tail.specs.Fences.{run_at_end}
@@ -47,10 +47,6 @@ repaired cs = repaired_by (last_run cs) cs
 -- The same in bytes.
 abbrev pub repaired_bytes : List ℕ → Option (List ℕ)
 repaired_bytes bs = option_map encodes (repaired (chars bs))
-
--- The bytes are UTF-8: decoded they are scalar values, and these encode to the same bytes.
-abbrev pub is_utf8 : List ℕ → Bool
-is_utf8 bs = scalars (chars bs) && bytes_eq (encodes (chars bs)) bs
 
 -- The length of the longest front of at most n bytes that is UTF-8.
 abbrev pub valid_up_to : ℕ → List ℕ → ℕ

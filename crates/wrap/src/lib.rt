@@ -55,6 +55,7 @@ pub struct WordRule;
 impl BreakingRule for WordRule {
     ghost meaning = { λ _. record { breaks = word_break; ordered = word_ordered; onward = word_onward; narrow = word_narrow; spaces = word_spaces; fewer = word_fewer } };
 
+    #[tactic(auto, using(wrap_laws::proofs::WordLaws::word_breaks_at))]
     fn break_row(&self, line: &[Glyph], width: u16, start: usize) -> (usize, usize) {
         let misfit = first_misfit(line, width, start);
         if misfit >= line.len() {
@@ -70,26 +71,60 @@ impl BreakingRule for WordRule {
     }
 }
 
-// Where the row behind the one that starts at `start` starts.
-fn next_start<R: BreakingRule>(rule: &R, line: &[Glyph], width: u16, start: usize) -> usize
-    ensures value { result ≡ ((R.BreakingRule.meaning rule.now).breaks line.now width start).1 }
-{
-    let (_, next) = rule.break_row(line, width, start);
-    next
+// The rows of a line, one after another, each by its start and its end: none where there is no glyph.
+#[derive(Clone, Copy)]
+pub struct Rows<'a, R> {
+    pub rule: &'a R,
+    pub line: &'a [Glyph],
+    pub width: u16,
+    pub start: usize,
+}
+
+impl<'a, R> Rows<'a, R> {
+    pub fn new(rule: &'a R, line: &'a [Glyph], width: u16) -> Self
+        ensures rule { result.rule.now ≡ rule.now }
+        ensures line { result.line.now ≡ line.now }
+        ensures width { result.width ≡ width }
+        ensures start { result.start ≡ 0 }
+    {
+        Rows {
+            rule,
+            line,
+            width,
+            start: 0,
+        }
+    }
+}
+
+impl<R: BreakingRule> Iterator for Rows<'_, R> {
+    ghost use Rattle.std.specs.Iterator.{YieldsFirst, item_count};
+    ghost use Rattle.wrap_laws.specs.Breaks.{places};
+
+    type Item = (usize, usize);
+
+    ghost next_gives = { YieldsFirst (λ s. places (R.BreakingRule.meaning s.rule.now) s.line.now s.width s.start) };
+
+    ghost remaining = { item_count (λ s. places (R.BreakingRule.meaning s.rule.now) s.line.now s.width s.start) };
+
+    #[tactic(auto, using(wrap_laws::proofs::RowCounts::places_step, wrap_laws::proofs::RowCounts::places_end))]
+    fn next(&mut self) -> Option<(usize, usize)> {
+        let start = self.start;
+        if start >= self.line.len() {
+            return None;
+        }
+        let (end, next) = self.rule.break_row(self.line, self.width, start);
+        self.start = next;
+        Some((start, end))
+    }
 }
 
 // The rows from the first glyph on: none where there is no glyph.
+#[tactic(auto, using(wrap_laws::proofs::RowCounts::row_counts, wrap_laws::proofs::RowCounts::wider_no_more_rows))]
 fn rows_of_glyphs<R: BreakingRule>(rule: &R, line: &[Glyph], width: u16) -> usize
     ensures value { result ≡ rows_from (R.BreakingRule.meaning rule.now).breaks line.now width (length line.now) 0 }
     ensures bound { WiderNoMoreRows (R.BreakingRule.meaning rule.now) }
 {
-    let mut rows = 0;
-    let mut start = 0;
-    while start < line.len() {
-        start = next_start(rule, line, width, start);
-        rows += 1;
-    }
-    rows
+    Rows::new(rule, line, width).count()
 }
 
 // How many rows a line has at a width: an empty line is one row.

@@ -1,8 +1,10 @@
 // The scans along a line that the rules are made of.
 
-ghost use Rattle.std.specs.Prelude.{◌≡◌, ◌≤◌, ◌&&◌, length, MatchOption, nat_le, nat_lt};
-ghost use Rattle.wrap_laws.specs.Breaks.{counted, space_at};
-ghost use Rattle.wrap_laws.specs.Rules.{first_misfit, past_spaces, IsLastBreak, NoBreak};
+ghost use Rattle.std.specs.Prelude.{◌≡◌, ◌≤◌, length, MatchOption, nat_le};
+ghost use Rattle.std.specs.List.{prefix_len};
+ghost use Rattle.glyphs.specs.Glyphs.{is_space};
+ghost use Rattle.wrap_laws.specs.Breaks.{counted};
+ghost use Rattle.wrap_laws.specs.Rules.{fitting, first_misfit, past_spaces, IsLastBreak, NoBreak};
 
 use glyphs::Glyph;
 
@@ -20,35 +22,47 @@ fn fits(glyph: &Glyph, width: u16, room: u16) -> bool
     columns_of(glyph, width) <= room
 }
 
+// How many glyphs from the front fit in a row.
+fn fitting(glyphs: &[Glyph], width: u16) -> usize
+    ensures value { result ≡ fitting width width glyphs.now }
+    ensures bound { result ≤ length glyphs.now }
+{
+    let mut room = width;
+    for (count, glyph) in glyphs.iter().enumerate() {
+        if !fits(glyph, width, room) {
+            return count;
+        }
+        room -= columns_of(glyph, width);
+    }
+    glyphs.len()
+}
+
 // The first glyph that does not fit in the row; the line's end where all do, and `start` itself past that.
 pub fn first_misfit(line: &[Glyph], width: u16, start: usize) -> usize
     ensures value { result ≡ first_misfit line.now width start }
 {
-    let mut room = width;
-    let mut at = start;
-    while at < line.len() && fits(&line[at], width, room) {
-        room -= columns_of(&line[at], width);
-        at += 1;
+    match line.get(start..) {
+        Some(glyphs) => start + fitting(glyphs, width),
+        None => start,
     }
-    at
 }
 
-// Whether a space stands at a place of the line.
-fn space_at(line: &[Glyph], at: usize) -> bool
-    ensures value { result ≡ (nat_lt at (length line.now) && space_at line.now at) }
+// How many spaces stand at the front.
+fn spaces(glyphs: &[Glyph]) -> usize
+    ensures value { result ≡ prefix_len is_space glyphs.now }
+    ensures bound { result ≤ length glyphs.now }
 {
-    at < line.len() && line[at].is_space()
+    glyphs.iter().take_while(|glyph| glyph.is_space()).count()
 }
 
 // The first place from `start` on that holds no space, or the line's end where there is none.
 pub fn past_spaces(line: &[Glyph], start: usize) -> usize
     ensures value { result ≡ past_spaces line.now start }
 {
-    let mut at = start;
-    while space_at(line, at) {
-        at += 1;
+    match line.get(start..) {
+        Some(glyphs) => start + spaces(glyphs),
+        None => start,
     }
-    at
 }
 
 // The last space before `end` with a non-space before it in the row. Where the last space has only

@@ -1,7 +1,7 @@
-use Rattle.std.proofs.Common.{◌≡◌, ℕ, zero, suc, ◌+◌, ◌-◌, ◌<◌, ◌≤◌, true, false, not, ◌&&◌, ltb, leb, ◌⊎◌, List, [], ◌∷◌, length, get_or, drop, Some, None, Option, sym, refl, ap, ◌∙◌, inl, inr, ⊎_elim, arith, length-drop, get_or-drop}
+use Rattle.std.proofs.Common.{◌≡◌, ℕ, zero, suc, ◌+◌, ◌-◌, ◌<◌, ◌≤◌, true, false, not, ◌&&◌, leb, ◌⊎◌, List, [], ◌∷◌, length, get_or, drop, Some, None, Option, sym, refl, ap, ◌∙◌, inl, inr, ⊎_elim, arith, length-drop, get_or-drop}
 use Rattle.std.specs.List.{prefix_len}
-use Rattle.std.proofs.lemmas.Bool.{cases_lt, cases_eq, cases_order, cases_Bool, cond-true, cond-false, both_ways, le-leb, and_from, and_parts, and_cases, or_left, or_right, or_cases, not_from_false, not-true, leb-true, ltb-true, lt-ltb}
-use Rattle.std.proofs.lemmas.List.Sums.{prefix_len-le-length, prefix_len-drop_yes, prefix_len-drop_no, prefix_len-drop_all}
+use Rattle.std.proofs.lemmas.Bool.{cases_lt, cases_eq, cases_order, cases_Bool, cond-true, cond-false, both_ways, le-leb, and_from, and_parts, and_cases, or_left, or_right, or_cases, not_from_false, not-true, leb-true}
+use Rattle.std.proofs.lemmas.List.Sums.{prefix_len-le-length}
 use Rattle.glyphs.specs.declared.Glyph.{Glyph}
 use Rattle.glyphs.specs.Glyphs.{is_space}
 use Rattle.wrap_laws.specs.Breaks.{no_glyph, space_at}
@@ -41,22 +41,6 @@ past_stops line k h =
 
 pub past_within : (line : List Glyph) (k : ℕ) → k ≤ length line → past_spaces line k ≤ length line
 past_within line k h = omega (arith, prefix_len-le-length is_space (drop k line), length-drop k line)
-
--- The scan past spaces: one space on, and its end.
-pub past_step : (line : List Glyph) (k : ℕ) → (ltb k (length line) && space_at line k) ≡ true → past_spaces line k ≡ past_spaces line (k + 1)
-past_step line k y =
-    let p = and_parts (ltb k (length line)) (space_at line k) y in
-    omega (arith, prefix_len-drop_yes is_space line k no_glyph (ltb-true k (length line) p.0) p.1)
-
-pub past_end : (line : List Glyph) (k : ℕ) → (ltb k (length line) && space_at line k) ≡ false → past_spaces line k ≡ k
-past_end line k n =
-    ⊎_elim
-    (λ l. ⊎_elim
-    (λ f. absurd (both_ways (ltb k (length line)) f (lt-ltb k (length line) l)))
-    (λ f. omega (arith, prefix_len-drop_no is_space line k no_glyph l f))
-    (and_cases (ltb k (length line)) (space_at line k) n))
-    (λ l. omega (arith, prefix_len-drop_all is_space line k l))
-    (cases_lt k (length line))
 
 -- Past a space lies further on.
 pub past_further_on : (line : List Glyph) (k : ℕ) → k < length line → space_at line k ≡ true → k < past_spaces line k

@@ -1,4 +1,4 @@
-use Rattle.std.proofs.Common.{◌≡◌, ℕ, zero, suc, ◌+◌, ◌-◌, ◌<◌, ◌≤◌, leb, List, [], ◌∷◌, length, get_or, take, drop, sym, ap, ◌∙◌, ⊎_elim, add-one, arith, length-drop, drop-cons, drop-drop}
+use Rattle.std.proofs.Common.{◌≡◌, ℕ, zero, suc, ◌+◌, ◌-◌, ◌<◌, ◌≤◌, leb, List, [], ◌∷◌, length, get_or, take, drop, ap, ◌∙◌, ⊎_elim, arith, length-drop, drop-cons, drop-drop}
 use Rattle.std.proofs.lemmas.Bool.{cases_lt, cond-true, cond-false, le-leb, lt-leb}
 use Rattle.glyphs.specs.declared.Glyph.{Glyph}
 use Rattle.wrap_laws.specs.Breaks.{no_glyph, counted, columns}
@@ -107,15 +107,3 @@ pub misfit_columns : (line : List Glyph) (w s : ℕ) → columns w (take (first_
 misfit_columns line w s =
     let e : first_misfit line w s - s ≡ fitting w w (drop s line) = omega arith in
     rw e (fitting-columns w w (drop s line))
-
--- The scan for the first misfit: one glyph on, and its two ends.
-pub fitting_step : (line : List Glyph) (w room at : ℕ) → at < length line → counted w (get_or line at no_glyph) ≤ room → fitting w room (drop at line) ≡ suc (fitting w (room - counted w (get_or line at no_glyph)) (drop (at + 1) line))
-fitting_step line w room at h k =
-    ap (fitting w room) (drop-cons line at no_glyph h) ∙ fits-one_more w room (get_or line at no_glyph) (drop (suc at) line) k
-    ∙ ap (λ n. suc (fitting w (room - counted w (get_or line at no_glyph)) (drop n line))) (sym (add-one at))
-
-pub fitting_end : (line : List Glyph) (w room at : ℕ) → length line ≤ at → fitting w room (drop at line) ≡ 0
-fitting_end line w room at h = omega (arith, fitting_le_length w room (drop at line), length-drop at line)
-
-pub fitting_stuck : (line : List Glyph) (w room at : ℕ) → at < length line → room < counted w (get_or line at no_glyph) → fitting w room (drop at line) ≡ 0
-fitting_stuck line w room at h k = ap (fitting w room) (drop-cons line at no_glyph h) ∙ fits-none w room (get_or line at no_glyph) (drop (suc at) line) k

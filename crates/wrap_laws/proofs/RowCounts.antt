@@ -1,29 +1,65 @@
-use Rattle.std.proofs.Common.{◌≡◌, ℕ, zero, suc, ◌+◌, ◌-◌, ◌<◌, ◌≤◌, ltb, List, length, refl, ap, ⊎_elim, arith}
+use Rattle.std.proofs.Common.{◌≡◌, ℕ, zero, suc, ◌+◌, ◌-◌, ◌<◌, ◌≤◌, ltb, List, [], ◌∷◌, length, sym, refl, ap, ◌∙◌, ⊎_elim, arith}
 use Rattle.std.proofs.lemmas.Bool.{cases_lt, cond-true, cond-false, lt-ltb, le-ltb}
 use Rattle.glyphs.specs.declared.Glyph.{Glyph}
-use Rattle.wrap_laws.specs.Breaks.{Breaks, Breaking, rows_from, rows_by, rows, WiderNoMoreRows}
+use Rattle.wrap_laws.specs.Breaks.{Breaks, Breaking, rows_from, rows_by, places_from, places, rows, WiderNoMoreRows}
 
 one_row_more : (b : Breaks) (line : List Glyph) (w n s : ℕ) → s < length line → rows_from b line w (suc n) s ≡ suc (rows_from b line w n (b line w s).1)
 one_row_more b line w n s h = cond-true (ltb s (length line)) _ _ (lt-ltb s (length line) h)
 
-pub no_row_more : (b : Breaks) (line : List Glyph) (w n s : ℕ) → length line ≤ s → rows_from b line w n s ≡ 0
+no_row_more : (b : Breaks) (line : List Glyph) (w n s : ℕ) → length line ≤ s → rows_from b line w n s ≡ 0
 no_row_more b line w zero s h = refl
 no_row_more b line w (suc n) s h = cond-false (ltb s (length line)) _ _ (le-ltb s (length line) h)
 
--- Counting rows: with the row at s counted as well, what is left from the next start on makes up the same number.
-pub row_counted : (b : Breaking) (line : List Glyph) (w n s next all : ℕ) → s < length line → n ≤ s → next ≡ (b.breaks line w s).1 → n + rows_from b.breaks line w (length line - n) s ≡ all → (n + 1 ≤ next) × (next ≤ length line) × (n + 1 + rows_from b.breaks line w (length line - (n + 1)) next ≡ all)
-row_counted b line w n s next all h k e so_far =
+-- However many rows are asked for, if there is one for each glyph that is left, all come.
+enough : (b : Breaking) (line : List Glyph) (w m n s : ℕ) → length line ≤ s + m → length line ≤ s + n → places_from b.breaks line w m s ≡ places_from b.breaks line w n s
+enough b line w zero zero s h k = refl
+enough b line w zero (suc n) s h k = sym (cond-false (ltb s (length line)) _ _ (le-ltb s (length line) (omega arith)))
+enough b line w (suc m) zero s h k = cond-false (ltb s (length line)) _ _ (le-ltb s (length line) (omega arith))
+enough b line w (suc m) (suc n) s h k =
+    ⊎_elim
+    (λ l. let on = b.onward line w s l in
+    let next = (b.breaks line w s).1 in
+    cond-true (ltb s (length line)) _ _ (lt-ltb s (length line) l)
+    ∙ ap (λ r. (s, (b.breaks line w s).0) ∷ r) (enough b line w m n next (omega arith) (omega arith))
+    ∙ sym (cond-true (ltb s (length line)) _ _ (lt-ltb s (length line) l)))
+    (λ l. cond-false (ltb s (length line)) _ _ (le-ltb s (length line) l) ∙ sym (cond-false (ltb s (length line)) _ _ (le-ltb s (length line) l)))
+    (cases_lt s (length line))
+
+pub places_step : (b : Breaking) (line : List Glyph) (w s : ℕ) → s < length line → places b line w s ≡ (s, (b.breaks line w s).0) ∷ places b line w (b.breaks line w s).1
+places_step b line w s h =
     let on = b.onward line w s h in
-    let left : length line - n ≡ suc (length line - (n + 1)) = omega arith in (
-      omega arith,
-      omega arith,
-      omega (
-        arith,
-        ap (λ m. rows_from b.breaks line w m s) left,
-        one_row_more b.breaks line w (length line - (n + 1)) s h,
-        ap (rows_from b.breaks line w (length line - (n + 1))) e,
-      ),
-    )
+    let next = (b.breaks line w s).1 in
+    let left : length line - s ≡ suc (length line - s - 1) = omega arith in
+    ap (λ n. places_from b.breaks line w n s) left
+    ∙ cond-true (ltb s (length line)) _ _ (lt-ltb s (length line) h)
+    ∙ ap (λ r. (s, (b.breaks line w s).0) ∷ r) (enough b line w (length line - s - 1) (length line - next) next (omega arith) (omega arith))
+
+pub places_end : (b : Breaking) (line : List Glyph) (w s : ℕ) → length line ≤ s → places b line w s ≡ []
+places_end b line w s h = let none : length line - s ≡ 0 = omega arith in ap (λ n. places_from b.breaks line w n s) none
+
+places_counted : (b : Breaks) (line : List Glyph) (w n s : ℕ) → length (places_from b line w n s) ≡ rows_from b line w n s
+places_counted b line w zero s = refl
+places_counted b line w (suc n) s =
+    ⊎_elim
+    (λ l. ap length (cond-true (ltb s (length line)) ((s, (b line w s).0) ∷ places_from b line w n (b line w s).1) [] (lt-ltb s (length line) l))
+    ∙ ap suc (places_counted b line w n (b line w s).1) ∙ sym (one_row_more b line w n s l))
+    (λ l. ap length (cond-false (ltb s (length line)) ((s, (b line w s).0) ∷ places_from b line w n (b line w s).1) [] (le-ltb s (length line) l)) ∙ sym (no_row_more b line w (suc n) s l))
+    (cases_lt s (length line))
+
+rows_at_most : (b : Breaks) (line : List Glyph) (w n s : ℕ) → rows_from b line w n s ≤ n
+rows_at_most b line w zero s = omega arith
+rows_at_most b line w (suc n) s =
+    ⊎_elim
+    (λ l. omega (arith, one_row_more b line w n s l, rows_at_most b line w n (b line w s).1))
+    (λ l. omega (arith, no_row_more b line w (suc n) s l))
+    (cases_lt s (length line))
+
+-- As many rows as are counted, and no more than there are glyphs.
+pub row_counts : (b : Breaking) (line : List Glyph) (w : ℕ) → (length (places b line w 0) ≡ rows_from b.breaks line w (length line) 0) × (length (places b line w 0) ≤ length line)
+row_counts b line w =
+    let e : length line - 0 ≡ length line = omega arith in
+    let c = places_counted b.breaks line w (length line - 0) 0 ∙ ap (λ n. rows_from b.breaks line w n 0) e in
+    (c, omega (arith, c, rows_at_most b.breaks line w (length line) 0))
 
 -- A rule whose next start is no earlier where the row starts no earlier and has one more column gives no more rows with one more column.
 module _ (b : Breaks) (line : List Glyph) (w : ℕ) (no-earlier : (s t : ℕ) → s ≤ t → t < length line → (b line w s).1 ≤ (b line (w + 1) t).1) where

@@ -48,6 +48,15 @@ pub record Breaking : Type 0 where
   -- One more column never gives more rows.
   pub fewer : (line : List Glyph) (w : ℕ) → 1 ≤ w → rows_by breaks line (w + 1) ≤ rows_by breaks line w
 
+-- The rows of a line from a start on, each by its start and its end, up to n of them.
+abbrev pub places_from : Breaks → List Glyph → ℕ → ℕ → ℕ → List (ℕ × ℕ)
+places_from b line w zero s = []
+places_from b line w (suc n) s = cond (nat_lt s (length line)) ((s, (b line w s).0) ∷ places_from b line w n (b line w s).1) []
+
+-- The rows of a line from a start on: at most one for each glyph that is left.
+abbrev pub places : Breaking → List Glyph → ℕ → ℕ → List (ℕ × ℕ)
+places b line w s = places_from b.breaks line w (length line - s) s
+
 -- How many rows a line has at a width by a breaking rule.
 abbrev pub rows : Breaking → List Glyph → ℕ → ℕ
 rows b line w = rows_by b.breaks line w

@@ -1,4 +1,4 @@
-use Rattle.std.proofs.Common.{[], ◌∷◌, IsUtf8, ap, ◌∙◌, rules}
+use Rattle.std.proofs.Common.{[], ◌∷◌, ap, ◌∙◌}
 use Rattle.std.specs.Str.{bytes_eq}
 use Rattle.std.proofs.lemmas.Slice.Eq.{bytes_eq-Decides}
 use Rattle.std.proofs.lemmas.Bool.Decides.{Decides-at}
@@ -9,5 +9,4 @@ use Rattle.tail.proofs.repair.lone_pipe.Goals as goal
 pub returns : goal.returns
 returns c =
     let t = c.trim in
-    let u : IsUtf8 c.args.line.now = search rules in
-    lone_by t.result.now c.eq.result t.utf8 (Decides-at c.eq.result (bytes_eq t.result.now (124 ∷ [])) c.eq.ensures (bytes_eq-Decides t.result.now (124 ∷ []))) ∙ ap (λ l. bytes_eq l (124 ∷ [])) (trim_chars c.args.line.now t.result.now u t.utf8 t.ensures.trim)
+    lone_by t.result.now c.eq.result t.utf8 (Decides-at c.eq.result (bytes_eq t.result.now (124 ∷ [])) c.eq.ensures (bytes_eq-Decides t.result.now (124 ∷ []))) ∙ ap (λ l. bytes_eq l (124 ∷ [])) (trim_chars c.args.line.now t.result.now c.utf8.line t.utf8 t.ensures.trim)

@@ -4,9 +4,8 @@ use Rattle.std.specs.Str.Iter.{split_text, split_has_more, split_pattern}
 use Rattle.std.specs.Str.{chars}
 use Rattle.tail.specs.Lines.{lines_of}
 use Rattle.tail.specs.Fences.{belongs}
-use Rattle.tail.specs.Scanning.{Holds}
 use Rattle.tail.specs.declared.fences.Fence.{Fence}
-use Rattle.tail.proofs.Splits.{finished, parts_left, split_step, finish_none, finish_end, finish_step}
+use Rattle.tail.proofs.Splits.{finished, parts_left, split_step, finish_none, finish_step}
 use Rattle.tail.proofs.scan.run_at_end.Goals as goal
 
 pub loop-line-init : goal.loop-line-init
@@ -47,12 +46,3 @@ loop-line-preserved c =
             ∙ (ap (finished f run) (sym (ap (λ b. parts_left 10 b (split_text s)) live ∙ k.0)) ∙ inv.5.2)),
       ),
     )
-
-pub returns : goal.returns
-returns c =
-    let s = c.loop-line.line-iterator in
-    let inv = c.loop-line.invariant in
-    let dead = sym c.in-None.ensures.steps.0 in
-    let f = c.loop-line.scanner.fence in
-    let run = inv.5.0 in
-    subst (Holds c.loop-line.scanner.run) (sym (ap (λ b. finished f run (parts_left 10 b (split_text s))) dead ∙ finish_end f run) ∙ inv.5.2) inv.5.1

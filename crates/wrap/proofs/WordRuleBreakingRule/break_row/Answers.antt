@@ -1,13 +1,6 @@
 use Rattle.std.proofs.Common.{rules}
-use Rattle.wrap_laws.proofs.WordLaws.{word_breaks_at, word_unbroken}
+use Rattle.wrap_laws.proofs.WordLaws.{word_unbroken}
 use Rattle.wrap.proofs.WordRuleBreakingRule.break_row.Goals as goal
-
-pub returns-in-Some : goal.returns-in-Some
-returns-in-Some c =
-    record {
-      value = word_breaks_at c.args.line.now c.args.width c.args.start c.first_misfit-misfit.result c.first_misfit-misfit.ensures.value
-          (search rules) (search rules) c.in-Some.space c.in-Some.ensures.cases;
-    }
 
 pub returns-in-None : goal.returns-in-None
 returns-in-None c =
