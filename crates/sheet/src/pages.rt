@@ -68,7 +68,7 @@ pub struct Put {
     style: Style,
 }
 
-fn side(words: &mut Words) -> Result<u16, Fault> {
+pub fn side(words: &mut Words) -> Result<u16, Fault> {
     Ok(words.next_number(65535)? as u16)
 }
 

@@ -1,6 +1,7 @@
 // The commands on byte strings: measuring, glyphs, rows and the streaming tail.
 ghost use Rattle.sheet.specs.Names.{ruling_of};
 
+use crate::pages::side;
 use crate::stops::*;
 use glyphs::{Bytes, Cluster, Clusters, Glyph, Ruler, Utf8, count_glyphs, sanitize};
 use std::alloc::Global;
@@ -9,7 +10,7 @@ use std::str::FromStr;
 use style::{Style, Symbol};
 use tail::{Refusal, cook_streaming_tail, cooked_text};
 use words::{Fault, Words, hex_text};
-use wrap::{BreakingRule, CuttingRule, WordRule, row_count};
+use wrap::{BreakingRule, CuttingRule, Rows, WordRule, row_count};
 
 // A ruler, as a script names it.
 #[derive(Clone, Copy)]
@@ -153,7 +154,7 @@ pub fn rows(
     rule: RuleName,
     mut words: Words,
 ) -> Result<(), Stop> {
-    let width = words.next_number(65535)? as u16;
+    let width = side(&mut words)?;
     let text = words.next_bytes(rt.alloc())?;
     words.end()?;
     if width == 0 {
@@ -169,20 +170,20 @@ pub fn rows(
     }
 }
 
-// The rows of a line, each by the places where it starts and ends.
+// The rows of a line, each by the places where it starts and ends: an empty line is one row.
 fn print_rows<R: BreakingRule>(
     rt: &HostRuntime,
     rule: &R,
     line: &[Glyph],
     width: u16,
 ) -> Result<(), Stop> {
-    let mut places = String::new(rt.alloc());
-    let mut start = 0;
     let count = row_count(rule, line, width);
-    for _ in 0..count {
-        let (end, next) = rule.break_row(line, width, start);
+    let mut places = String::new(rt.alloc());
+    if line.is_empty() {
+        places.push_str(" 0-0")?;
+    }
+    for (start, end) in Rows::new(rule, line, width) {
         write!(places, " {start}-{end}")?;
-        start = next;
     }
     println!(rt; "rows {width} {count}{places}")?;
     Ok(())
