@@ -31,12 +31,12 @@ fine = Ok tt
 
 all_three : (b c d : Bool) (x y z : Refusal) → cond b (cond c (cond d fine (Err x)) (Err y)) (Err z) ≡ fine → (b ≡ true) × (c ≡ true) × (d ≡ true)
 all_three true true true x y z h = (refl, refl, refl)
-all_three true true false x y z h = let e : ◌≡◌ {A = ℕ} 0 1 = cc in absurd (omega arith)
-all_three true false d x y z h = let e : ◌≡◌ {A = ℕ} 0 1 = cc in absurd (omega arith)
-all_three false c d x y z h = let e : ◌≡◌ {A = ℕ} 0 1 = cc in absurd (omega arith)
+all_three true true false x y z h = cc
+all_three true false d x y z h = cc
+all_three false c d x y z h = cc
 
 passes_by : (a : List ℕ → Bool) (t : List ℕ) (ms : List Mark) (i : ℕ) (e : Event) (o : Option Kind) → kind_of e.kind ≡ o → judged_by a t most_marks ms i e o ≡ Ok tt → Passes a t ms e
-passes_by a t ms i e None p h = let z : ◌≡◌ {A = ℕ} 0 1 = cc in absurd (omega arith)
+passes_by a t ms i e None p h = cc
 passes_by a t ms i e (Some k) p h =
     let q = all_three (formed (length t) e k) (allowed most_marks ms (planned (topped ms) k e.columns)) (every a (measured (place_in (topped ms)) k (bytes_of t e))) (refused.Ruler i) (refused.Nesting i) (refused.Kind i) h in
     record { kind = k; known = p; shaped = q.0; nested = q.1; admitted = q.2 }
@@ -52,7 +52,7 @@ every_admitted_event_passes a t es h n d l =
 
 closed_only : (ms : List Mark) (n : ℕ) → closing ms n ≡ Ok tt → ms ≡ []
 closed_only [] n h = refl
-closed_only (m ∷ ms) n h = let z : ◌≡◌ {A = ℕ} 0 1 = cc in absurd (omega arith)
+closed_only (m ∷ ms) n h = cc
 
 pub an_admitted_list_closes_its_marks : (a : List ℕ → Bool) (t : List ℕ) (es : List Event) → checked a t es ≡ Ok tt → marks_at es (length es) ≡ []
 an_admitted_list_closes_its_marks a t es h =

@@ -1,5 +1,5 @@
 -- The place that a mark keeps is the one that all open marks say.
-use Rattle.std.proofs.Common.{◌≡◌, ℕ, Bool, true, false, cond, ltb, List, [], ◌∷◌, length, take, Some, None, fold, Option, sym, refl, ◌∙◌, arith}
+use Rattle.std.proofs.Common.{◌≡◌, ℕ, Bool, true, false, cond, ltb, List, [], ◌∷◌, length, take, Some, None, fold, Option, sym, refl, ◌∙◌}
 use Rattle.stack.specs.Stacks.{topped, popped, replaced}
 use Rattle.events.specs.Kinds.{kind_of}
 use Rattle.events.specs.declared.event.Event.{Event}
@@ -41,7 +41,7 @@ fits-outside ms place.Table m h = tt
 fits-outside ms place.Entry m h = tt
 
 a_table_in_prose : (b c : Bool) → place.Prose ≡ cond b place.Entry (cond c place.Table place.Prose) → place.Table ≡ cond b place.Entry place.Table
-a_table_in_prose true c h = let z : ◌≡◌ {A = ℕ} 0 1 = cc in absurd (omega arith)
+a_table_in_prose true c h = cc
 a_table_in_prose false c h = refl
 
 fits-headed : (ms : List Mark) → Placed ms → Fits ms (headed (topped ms))

@@ -6,11 +6,11 @@ use Rattle.std.specs.Char.{len_utf8, is_ascii_control}
 use Rattle.std.specs.List.{AllByRecursion as All}
 use Rattle.std.specs.Str.{chars, bytes_eq}
 use Rattle.std.proofs.lemmas.Bool.Decides.{nat_tests}
-use Rattle.std.proofs.lemmas.Bool.{and_parts, and_from, cond-true, cond-false, cond_both, cases_Bool, cases_lt, leb-true}
+use Rattle.std.proofs.lemmas.Bool.{and_parts, and_from, cond_both, cases_lt, leb-true}
 use Rattle.std.proofs.lemmas.Slice.Eq.{bytes_eq-Decides}
 use Rattle.std.proofs.lemmas.List.{get_or-append_right, take_at, drop_at}
 use Rattle.std.proofs.lemmas.Str.{chars-encodes, scalars-chars, encodes-chars, length-encode, inside_one, encodes-append, len_utf8_bounds}
-use Rattle.clusters.specs.Widths.{inside, zero_width, wide, is_control, is_mark, columns_of}
+use Rattle.clusters.specs.Widths.{is_control, is_mark, columns_of}
 use Rattle.clusters.specs.Texts.{is_text}
 use Rattle.clusters.specs.Cuts.{cut_off, cut, mark_bytes, point_first, utf8_first, HidesControls}
 use Rattle.clusters.proofs.Cutting.{Onward, cut_all}
@@ -27,10 +27,10 @@ high_bytes : (cs : List ℕ) → All (λ c. 128 ≤ c) cs → (i : ℕ) → i < 
 high_bytes [] a i h = absurd (omega arith)
 high_bytes (c ∷ cs) a i h =
     let n = length-append (encode c) (encodes cs) in
-    ⊎_elim
-    (λ l. ⊎_elim (λ low. absurd (omega (arith, a.0, inside_one c (encodes cs) (encode c ++ encodes cs) i refl l low))) (λ k. k) (cases_lt (get_or (encode c ++ encodes cs) i 0) 128))
-    (λ l. rw (get_or-append_right (encode c) (encodes cs) (length (encode c)) i 0 refl l) (high_bytes cs a.1 (i - length (encode c)) (omega arith)))
-    (cases_lt i (length (encode c)))
+    let rest = high_bytes cs a.1 (i - length (encode c)) in
+    let own : i < length (encode c) → get_or (encode c ++ encodes cs) i 0 < 128 → c ≡ get_or (encode c ++ encodes cs) i 0 = inside_one c (encodes cs) (encode c ++ encodes cs) i refl in
+    let later = get_or-append_right (encode c) (encodes cs) (length (encode c)) i 0 refl in
+    grind (arith)
 
 -- the marks that fit are some of the code points at the front, each from 128 on
 pub record Front (room : ℕ) (cs : List ℕ) (n : ℕ) : Type 0 where
@@ -45,27 +45,18 @@ none_fit room cs = record { count = 0; long = refl; high = tt; fits = omega arit
 marks-front : (room : ℕ) (cs : List ℕ) → Front room cs (mark_bytes room cs)
 marks-front room [] = none_fit room []
 marks-front room (c ∷ cs) =
-    let n = mark_bytes (room - len_utf8 c) cs in
-    ⊎_elim
+    cond_both (is_mark c && leb (len_utf8 c) room) (len_utf8 c + mark_bytes (room - len_utf8 c) cs) 0 (Front room (c ∷ cs))
     (λ yes.
     let p = and_parts (is_mark c) (leb (len_utf8 c) room) yes in
     let f = marks-front (room - len_utf8 c) cs in
-    let k = f.count in
     let w = leb-true (len_utf8 c) room p.1 in
     let big : 128 ≤ c = let m = p.0 in grind (arith, nat_tests) in
-    let e = length-append (encode c) (encodes (take k cs)) in
-    let front : Front room (c ∷ cs) (len_utf8 c + n) = record { count = suc k; long = omega (arith, length-encode c, f.long); high = (big, f.high); fits = omega (arith, f.fits) } in
-    subst (Front room (c ∷ cs)) (sym (cond-true (is_mark c && leb (len_utf8 c) room) (len_utf8 c + n) 0 yes)) front)
-    (λ not. subst (Front room (c ∷ cs)) (sym (cond-false (is_mark c && leb (len_utf8 c) room) (len_utf8 c + n) 0 not)) (none_fit room (c ∷ cs)))
-    (cases_Bool (is_mark c && leb (len_utf8 c) room))
+    let e = length-append (encode c) (encodes (take f.count cs)) in
+    record { count = suc f.count; long = omega (arith, length-encode c, f.long); high = (big, f.high); fits = omega (arith, f.fits) })
+    (λ _. none_fit room (c ∷ cs))
 
 tail_front : (c : ℕ) (cs : List ℕ) → Front (8 - len_utf8 c) cs (cond (is_control c) 0 (mark_bytes (8 - len_utf8 c) cs))
-tail_front c cs =
-    let n = mark_bytes (8 - len_utf8 c) cs in
-    ⊎_elim
-    (λ yes. subst (Front (8 - len_utf8 c) cs) (sym (cond-true (is_control c) 0 n yes)) (none_fit (8 - len_utf8 c) cs))
-    (λ not. subst (Front (8 - len_utf8 c) cs) (sym (cond-false (is_control c) 0 n not)) (marks-front (8 - len_utf8 c) cs))
-    (cases_Bool (is_control c))
+tail_front c cs = cond_both (is_control c) 0 (mark_bytes (8 - len_utf8 c) cs) (Front (8 - len_utf8 c) cs) (λ _. none_fit (8 - len_utf8 c) cs) (λ _. marks-front (8 - len_utf8 c) cs)
 
 scalars_drop : (k : ℕ) (cs : List ℕ) → scalars cs ≡ true → scalars (drop k cs) ≡ true
 scalars_drop zero cs h = h
@@ -140,7 +131,7 @@ left-begun s g =
     (g.after, (g.good, sym rest))
 
 columns_most : (c : ℕ) → columns_of c ≤ 2
-columns_most c = cond_both (inside zero_width c) 0 (cond (inside wide c) 2 1) (λ n. n ≤ 2) (λ _. omega arith) (λ _. cond_both (inside wide c) 2 1 (λ n. n ≤ 2) (λ _. omega arith) (λ _. omega arith))
+columns_most c = grind (arith, nat_tests)
 
 -- the first cluster of any code points has 1 to 8 bytes and a width of 0 to 2
 first_sizes : (cs : List ℕ) → (1 ≤ (point_first cs).len) × ((point_first cs).len ≤ 8) × ((point_first cs).width ≤ 2)

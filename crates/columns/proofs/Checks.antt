@@ -22,10 +22,10 @@ first_too_wide-told i (n ∷ ns) =
     at true more = refl
     at false more = more
 
-pub answered_by : (ns : List ℕ) {r : Option ℕ} (v : Option ℕ) → length ns ≤ 32 → r ≡ v
-    → r ≡ cond (ltb (position_or_len (ltb 100000) ns) (length ns)) (Some (position_or_len (ltb 100000) ns)) None → told v ≡ answered ns
-answered_by ns v few is found =
-    ap told (sym is ∙ (found ∙ position_from-zero (ltb 100000) ns))
+pub answered_by : (ns : List ℕ) {r : Option ℕ} → length ns ≤ 32
+    → r ≡ cond (ltb (position_or_len (ltb 100000) ns) (length ns)) (Some (position_or_len (ltb 100000) ns)) None → told r ≡ answered ns
+answered_by ns few found =
+    ap told (found ∙ position_from-zero (ltb 100000) ns)
     ∙ (sym (first_too_wide-told 0 ns) ∙ sym (cond-false (ltb 32 (length ns)) (Err TooManyColumns) (first_too_wide 0 ns) (le-ltb 32 (length ns) few)))
 
 -- what an admitted question has

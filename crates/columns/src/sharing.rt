@@ -22,13 +22,8 @@ impl Widths<'_> {
         ensures most { (k : ℕ) → k < length self.now.cells.now → slice_index self.now.cells.now k ≤ slice_index self.now.cells.now result }
         ensures rightmost { (k : ℕ) → result < k → k < length self.now.cells.now → slice_index self.now.cells.now k < slice_index self.now.cells.now result }
     {
-        let (widest, _) = self
-            .cells
-            .iter()
-            .enumerate()
-            .max_by_key(|(i, w)| (**w, *i))
-            .unwrap();
-        widest
+        let most = *self.cells.iter().max().unwrap();
+        self.cells.iter().rposition(|w| *w == most).unwrap()
     }
 
     // Takes one cell from the widest column, and tells whether it had one to give.

@@ -1,12 +1,10 @@
 // Damaged copies of a good list are judged like any other. The counts come from a model of the rules in another language.
-ghost use Rattle.std.specs.Prelude.{◌≡◌, ◌<◌, length};
+ghost use Rattle.std.specs.Prelude.{◌≡◌, ◌<◌};
 
 use super::made::*;
 use events::Event;
 
 const COUNT: usize = 34;
-
-const MORE: usize = 35;
 
 // Heading, paragraph with bold and code, list, table, code block.
 const GOOD: [u8; COUNT] = [
@@ -62,58 +60,29 @@ impl Tally {
     fn with(self, told: (u8, u64)) -> Tally
         ensures refused { 0 < told.0 → result.admitted ≡ self.admitted }
     {
-        if told.0 == 0 {
-            Tally {
+        match told {
+            (0, _) => Tally {
                 admitted: self.admitted.saturating_add(1),
                 ..self
-            }
-        } else {
-            Tally {
-                events: self.events.saturating_add(told.1),
+            },
+            (_, event) => Tally {
+                events: self.events.saturating_add(event),
                 ..self
-            }
+            },
         }
     }
 }
 
-// Writes the good list.
-fn write_good(events: &mut [Event])
-    ensures len { length events.new ≡ length events.old }
-{
-    for (slot, kind) in events.iter_mut().zip(&GOOD) {
-        *slot = event(*kind);
-    }
-}
-
-// Moves what stands behind a place one to the left.
-fn close_gap(events: &mut [Event], gone: usize)
-    ensures len { length events.new ≡ length events.old }
-{
-    for i in 1..events.len() {
-        if i > gone {
-            events[i - 1] = events[i];
-        }
-    }
-}
-
-// Moves what stands behind a place one to the right.
-fn open_gap(events: &mut [Event], twice: usize)
-    ensures len { length events.new ≡ length events.old }
-{
-    for i in (1..events.len()).rev() {
-        if i > twice {
-            events[i] = events[i - 1];
-        }
-    }
+fn good() -> [Event; COUNT] {
+    GOOD.map(event)
 }
 
 #[test]
 fn without_any_one_event(rt: HostRuntime) {
     let mut tally = Tally::NONE;
     for gone in 0..COUNT {
-        let mut events = [event(OTHER); COUNT];
-        write_good(&mut events);
-        close_gap(&mut events, gone);
+        let mut events = good();
+        events.copy_within(gone + 1.., gone);
         tally = tally.with(answer(&events[0..COUNT - 1]));
     }
     assert_eq!(rt; tally.admitted, 10);
@@ -124,9 +93,9 @@ fn without_any_one_event(rt: HostRuntime) {
 fn with_any_one_event_doubled(rt: HostRuntime) {
     let mut tally = Tally::NONE;
     for twice in 0..COUNT {
-        let mut events = [event(OTHER); MORE];
-        write_good(&mut events);
-        open_gap(&mut events, twice);
+        let mut events = [event(OTHER); COUNT + 1];
+        events[..COUNT].copy_from_slice(&good());
+        events.copy_within(twice..COUNT, twice + 1);
         tally = tally.with(answer(&events));
     }
     assert_eq!(rt; tally.admitted, 10);
@@ -137,8 +106,7 @@ fn with_any_one_event_doubled(rt: HostRuntime) {
 fn with_any_two_neighbours_swapped(rt: HostRuntime) {
     let mut tally = Tally::NONE;
     for first in 0..COUNT - 1 {
-        let mut events = [event(OTHER); COUNT];
-        write_good(&mut events);
+        let mut events = good();
         events.swap(first, first + 1);
         tally = tally.with(answer(&events));
     }

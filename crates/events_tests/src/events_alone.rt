@@ -1,15 +1,19 @@
 use super::made::*;
-use events::{Cursor, kind_of};
+use events::{Cursor, Kind, Tag, Unknown, kind_of};
 
 #[test]
 fn twenty_seven_numbers_mean_a_kind(rt: HostRuntime) {
-    let mut known: u32 = 0;
-    for number in 0..=255u8 {
-        if kind_of(number).is_some() {
-            known = known.saturating_add(1);
-        }
-    }
-    assert_eq!(rt; known, 27);
+    let known = (0..=255u8).filter(|number| kind_of(*number).is_some());
+    assert_eq!(rt; known.count(), 27);
+}
+
+#[test]
+fn a_start_an_end_and_a_tag_are_known_by_their_numbers(rt: HostRuntime) {
+    assert_eq!(rt; Kind::try_from(TABLE), Ok(Kind::Start(Tag::Table)));
+    assert_eq!(rt; Kind::try_from(TABLE_END), Ok(Kind::End(Tag::Table)));
+    assert_eq!(rt; Kind::try_from(21), Err(Unknown));
+    assert_eq!(rt; Tag::try_from(CELL), Ok(Tag::TableCell));
+    assert_eq!(rt; Tag::try_from(CELL_END), Err(Unknown));
 }
 
 #[test]

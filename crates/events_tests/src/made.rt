@@ -115,10 +115,7 @@ pub fn table(columns: u8) -> Event
 pub fn told(answer: Result<(), Refusal>) -> (u8, u64)
     ensures value { result ≡ numbers answer }
 {
-    match answer {
-        Ok(_) => (0, 0),
-        Err(refusal) => refusal.numbered(),
-    }
+    answer.err().map_or((0, 0), Refusal::numbered)
 }
 
 // What the check says to these events with the sample text.

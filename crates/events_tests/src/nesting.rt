@@ -35,9 +35,7 @@ fn marks_that_stay_open_are_refused_with_the_event_count(rt: HostRuntime) {
 fn sixty_four_marks_may_be_open_and_no_more(rt: HostRuntime) {
     let mut events = [event(STRONG); 128];
     assert_eq!(rt; answer(&events), (2, 64));
-    for slot in events.iter_mut().skip(64) {
-        *slot = event(STRONG_END);
-    }
+    events[64..].fill(event(STRONG_END));
     assert_eq!(rt; answer(&events), (0, 0));
 }
 

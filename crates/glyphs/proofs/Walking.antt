@@ -1,7 +1,7 @@
 -- Glyphs written into memory, and the walk through a text.
-use Rattle.std.proofs.Common.{◌≡◌, ℕ, suc, ◌+◌, ◌-◌, ◌<◌, ◌≤◌, min, Bool, true, false, cond, eqb, List, [], ◌∷◌, ◌++◌, length, get_or, take, drop, set, replicate, sym, refl, ap, ◌∙◌, subst, ⊎_elim, append_assoc, add-zero, arith, length-append, length-drop, length-set, take-append-drop, length-take, take-suc-set}
+use Rattle.std.proofs.Common.{◌≡◌, ℕ, suc, ◌+◌, ◌-◌, ◌<◌, ◌≤◌, min, Bool, true, false, cond, eqb, List, [], ◌∷◌, ◌++◌, length, get_or, take, drop, set, replicate, sym, refl, ap, ◌∙◌, subst, ⊎_elim, append_assoc, add-zero, arith, length-append, length-drop, length-set, take-append-drop, take-suc-set}
 use lib.Seq.{sets, length-sets, take-nil}
-use Rattle.std.proofs.lemmas.List.{length-replicate, take-replicate, take_all, drop_all, drop-drop, drop-set-lt, drop_more, set_past, take_rest}
+use Rattle.std.proofs.lemmas.List.{length-replicate, take_all, drop_all, drop-drop, drop-set-lt, drop_more, set_past, take_rest}
 use Rattle.std.proofs.lemmas.Bool.{cases_lt}
 use Rattle.std.specs.List.{flat_map}
 use Rattle.style.specs.declared.Style.{Style}
@@ -10,36 +10,6 @@ use Rattle.glyphs.specs.Rulings.{Ruling, cut_at}
 use Rattle.clusters.proofs.Cutting.{cut_more}
 use Rattle.glyphs.specs.declared.Glyph.{Glyph}
 use Rattle.glyphs.specs.Glyphs.{is_tab, space, replacement, glyph_of, shown, sanitized, overwritten}
-
--- a glyph written n times over its places, where there is room for n of them
-pub filled : (gs : List Glyph) (from times n : ℕ) (g : Glyph) → n ≡ min times (length gs - from) → take from gs ++ (replicate n g ++ drop n (drop from gs)) ≡ overwritten gs from (replicate times g)
-filled gs from times n g e =
-    let l = length-replicate times g in
-    ⊎_elim
-    (λ room.
-    let k : n ≡ times = omega arith in
-    let t : take (length gs - from) (replicate times g) ≡ replicate times g = take_all (length gs - from) (replicate times g) (omega arith) in
-    ap (λ m. take from gs ++ (replicate m g ++ drop m (drop from gs))) k
-    ∙ ap (λ x. take from gs ++ (replicate times g ++ x)) (drop-drop times from gs ∙ ap (λ m. drop (from + m) gs) (sym l))
-    ∙ ap (λ x. take from gs ++ (x ++ drop (from + length (replicate times g)) gs)) (sym t))
-    (λ full.
-    let k : n ≡ length gs - from = omega arith in
-    let t : take (length gs - from) (replicate times g) ≡ replicate (length gs - from) g = take-replicate (length gs - from) times g (omega arith) in
-    let past : drop (length gs - from) (drop from gs) ≡ drop (from + length (replicate times g)) gs =
-    drop-drop (length gs - from) from gs ∙ drop_all (from + (length gs - from)) gs (omega arith) ∙ sym (drop_all (from + length (replicate times g)) gs (omega arith)) in
-    ap (λ m. take from gs ++ (replicate m g ++ drop m (drop from gs))) k
-    ∙ ap (λ x. take from gs ++ (replicate (length gs - from) g ++ x)) past
-    ∙ ap (λ x. take from gs ++ (x ++ drop (from + length (replicate times g)) gs)) (sym t))
-    (cases_lt times (suc (length gs - from)))
-
--- the same of the part that is lent to be filled
-pub part_filled : (gs ys : List Glyph) (from times n k : ℕ) (g : Glyph) → n ≡ min times (length gs - from) → k ≡ n → ys ≡ replicate (length (take k (drop from gs))) g →
-    take from gs ++ (ys ++ drop k (drop from gs)) ≡ overwritten gs from (replicate times g)
-part_filled gs ys from times n k g e q h =
-    let m : length (take k (drop from gs)) ≡ n = length-take k (drop from gs) ∙ ap (min k) (length-drop from gs) ∙ omega arith in
-    ap (λ l. take from gs ++ (l ++ drop k (drop from gs))) (h ∙ ap (λ i. replicate i g) m)
-    ∙ ap (λ i. take from gs ++ (replicate n g ++ drop i (drop from gs))) q
-    ∙ filled gs from times n g e
 
 -- glyphs written one after another, each at its place
 pub overwritten_sets : (gs : List Glyph) (i : ℕ) (xs : List Glyph) → overwritten gs i xs ≡ sets gs i xs

@@ -4,30 +4,24 @@
 #![tactic(auto)]
 
 use clusters::columns;
-use glyphs::{Bytes, Glyph, Ruler, Utf8, count_glyphs, cut_at, sanitize};
+use glyphs::{Bytes, Clusters, Glyph, Ruler, Utf8, count_glyphs, sanitize};
 use style::{Style, Symbol};
 
 // Whether a ruler admits a text and cuts it into clusters of these lengths and widths.
 fn cuts_into<R: Ruler>(ruler: &R, text: &[u8], expected: &[(usize, u8)]) -> bool {
-    let mut at = 0;
-    for &(len, width) in expected {
-        let Some(cut) = cut_at(ruler, text, at) else {
-            return false;
-        };
-        if cut.bytes.len() != len || cut.width != width {
-            return false;
-        }
-        at += cut.bytes.len();
-    }
-    at == text.len() && ruler.admits(text)
+    let cuts = Clusters::new(ruler, text).map(|cut| (cut.bytes.len(), cut.width));
+    ruler.admits(text) && cuts.eq(expected.iter().copied())
 }
 
 // Whether a glyph has these bytes, this width and this style.
 fn is_glyph(g: Glyph, bytes: &[u8], width: u8, style: Style) -> bool {
-    match Symbol::new(bytes) {
-        Some(s) => g.symbol == s && g.width == width && g.style == style,
-        None => false,
-    }
+    Symbol::new(bytes).is_some_and(|symbol| {
+        g == Glyph {
+            symbol,
+            width,
+            style,
+        }
+    })
 }
 
 #[cfg(test)]
@@ -100,7 +94,7 @@ mod tests {
             for b in 0..256u16 {
                 let text = [a as u8, b as u8];
                 let ascii = a < 0x80 && b < 0x80;
-                let pair = a >= 0xC2 && a < 0xE0 && b >= 0x80 && b < 0xC0;
+                let pair = matches!((a, b), (0xC2..0xE0, 0x80..0xC0));
                 assert!(rt; Utf8.admits(&text) == (ascii || pair));
                 assert!(rt; Bytes.admits(&text));
             }

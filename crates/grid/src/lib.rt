@@ -15,7 +15,7 @@ ghost use Rattle.page.specs.Rows.{fits};
 ghost use Rattle.grid.specs.Memory.{cell_put};
 ghost use Rattle.grid.specs.Grids.{grid_shows, grid_held, grid_rest, GridLawful};
 
-use page::{Cell, Refusal, Surface, admit, check_memory, place};
+use page::{Cell, Refusal, Sides, Surface};
 use style::Style;
 
 // Makes each cell fresh.
@@ -46,7 +46,8 @@ impl<'a> Grid<'a> {
         ensures value { result ≡ memory_answer width height (width * height) (length cells.now) }
         ensures numbers { told result ≡ memory_told width height (width * height) (length cells.now) }
     {
-        check_memory(width, height, width as usize * height as usize, cells.len())
+        let sides = Sides { width, height };
+        sides.check_memory(sides.cells(), cells.len())
     }
 
     // The page of these sides over cells that `check` admits, all fresh. Over others, which stay as they are,
@@ -73,12 +74,6 @@ impl<'a> Grid<'a> {
             height,
         }
     }
-
-    fn fits(&self) -> bool
-        ensures value { result ≡ fits self.now.width self.now.height (self.now.width * self.now.height) (length self.now.cells.now) }
-    {
-        Grid::check(self.cells, self.width, self.height).is_ok()
-    }
 }
 
 impl<'a> Surface for Grid<'a> {
@@ -90,30 +85,32 @@ impl<'a> Surface for Grid<'a> {
 
     ghost lawful = { GridLawful };
 
-    fn width(&self) -> u16 {
-        if self.fits() { self.width } else { 0 }
-    }
-
-    fn height(&self) -> u16 {
-        if self.fits() { self.height } else { 0 }
+    fn sides(&self) -> Sides {
+        match Grid::check(self.cells, self.width, self.height) {
+            Ok(()) => Sides {
+                width: self.width,
+                height: self.height,
+            },
+            Err(_) => Sides::NONE,
+        }
     }
 
     fn read(&self, x: u16, y: u16) -> Option<Cell> {
-        if x < self.width() && y < self.height() {
-            Some(self.cells[place(self.width, x, y)].tidy())
-        } else {
-            None
+        let sides = self.sides();
+        if !sides.hold(x, y) {
+            return None;
         }
+        Some(self.cells[sides.place(x, y)].tidy())
     }
 
     fn put(&mut self, x: u16, y: u16, symbol: &[u8], style: Style) -> Result<(), Refusal>
         ensures after { Put grid_shows grid_held grid_rest GridLawful x y symbol.now style self.old self.new result }
         ensures memory { self.new.cells.now ≡ (if is_ok result then cell_put self.old.cells.now (y * self.old.width + x) (symbol_of symbol.now) style else self.old.cells.now) }
     {
-        let symbol = admit(self.width(), self.height(), x, y, symbol, style)?;
-        let i = place(self.width, x, y);
-        let cell = self.cells[i].tidy().inked(symbol, style);
-        write(self.cells, i, cell);
+        let sides = self.sides();
+        let symbol = sides.admit(x, y, symbol, style)?;
+        let cell = self.read(x, y).unwrap().inked(symbol, style);
+        write(self.cells, sides.place(x, y), cell);
         Ok(())
     }
 }

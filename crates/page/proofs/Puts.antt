@@ -1,4 +1,4 @@
-use Rattle.std.proofs.Common.{◌≡◌, ℕ, ◌<◌, ◌≤◌, true, false, List, [], length, is_ok, is_err, Ok, Err, Result, sym, refl, ap, ◌∙◌, arith}
+use Rattle.std.proofs.Common.{◌≡◌, ℕ, ◌<◌, ◌≤◌, Bool, true, false, List, [], length, is_ok, is_err, Ok, Err, Result, sym, refl, ap, ◌∙◌, arith}
 use Rattle.std.proofs.lemmas.Bool.{true≢false}
 use Rattle.std.proofs.lemmas.Bool.Decides.{nat_tests}
 use Rattle.style.specs.declared.Style.{Style}
@@ -6,28 +6,21 @@ use Rattle.style.specs.declared.Symbol.{Symbol}
 use Rattle.style.specs.Symbols.{symbol_of}
 use Rattle.page.specs.declared.refusals.Refusal.{Refusal}
 use Rattle.page.specs.Refusals.{put_answer, put_told, memory_answer}
-use Rattle.page.specs.Surfaces.{inside}
 
 -- what is known of a put of the bytes bs that is admitted, with the symbol u
-pub record Admitted (w h x y : ℕ) (bs : List ℕ) (t : Style) (u : Symbol) : Type 0 where
-  pub on_x : x < w
-  pub on_y : y < h
+pub record Admitted (within : Bool) (bs : List ℕ) (t : Style) (u : Symbol) : Type 0 where
+  pub on : within ≡ true
   pub short : length bs ≤ 8
   pub front : t.fg ≤ 16
   pub back : t.bg ≤ 16
   pub symbol : u ≡ symbol_of bs
-  pub value : Ok (tt {0}) ≡ put_answer (inside w h x y) (length bs) t (tt {0})
-  pub numbers : [] ≡ put_told (inside w h x y) (length bs) t
+  pub value : Ok (tt {0}) ≡ put_answer within (length bs) t (tt {0})
+  pub numbers : [] ≡ put_told within (length bs) t
 
-pub admitted : (w h x y : ℕ) (bs : List ℕ) (t : Style) (u : Symbol) (a b : ℕ) (r : Result Symbol Refusal)
-    → a ≡ w → b ≡ h → r ≡ put_answer (inside a b x y) (length bs) t (symbol_of bs) → r ≡ Ok u → Admitted w h x y bs t u
-admitted w h x y bs t u a b r p q answer was =
-    let e : put_answer (inside w h x y) (length bs) t (symbol_of bs) ≡ Ok u =
-    ap (λ k. put_answer (inside k h x y) (length bs) t (symbol_of bs)) (sym p)
-    ∙ ap (λ k. put_answer (inside a k x y) (length bs) t (symbol_of bs)) (sym q) ∙ sym answer ∙ was in
+pub admitted : (within : Bool) (bs : List ℕ) (t : Style) (u : Symbol) → put_answer within (length bs) t (symbol_of bs) ≡ Ok u → Admitted within bs t u
+admitted within bs t u e =
     record {
-      on_x = grind (arith, nat_tests);
-      on_y = grind (arith, nat_tests);
+      on = grind (arith, nat_tests);
       short = grind (arith, nat_tests);
       front = grind (arith, nat_tests);
       back = grind (arith, nat_tests);

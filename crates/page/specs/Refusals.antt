@@ -1,4 +1,4 @@
-use Rattle.std.specs.Prelude.{ℕ, Bool, cond, ◌&&◌, ◌||◌, List, [], ◌∷◌, Ok, Err, Result, ◌==◌, nat_lt}
+use Rattle.std.specs.Prelude.{ℕ, Bool, cond, ◌&&◌, ◌||◌, List, [], ◌∷◌, ◌++◌, Ok, Err, Result, codes, decimal, ◌==◌, nat_lt}
 use Rattle.style.specs.declared.Style.{Style}
 use Rattle.page.specs.declared.refusals.Refusal.{Refusal}
 use Rattle.page.specs.declared.refusals.Refusal.TheVariants.{Outside, Long, Amount, Block, Colour}
@@ -18,6 +18,15 @@ values Outside = []
 values Long = []
 values (Block b) = b ∷ []
 values Colour = 0 ∷ []
+
+-- values as they are printed, each behind a space
+abbrev pub values_text : List ℕ → List ℕ
+values_text [] = []
+values_text (v ∷ vs) = codes " " ++ (decimal v ++ values_text vs)
+
+-- a refusal as it is printed: its number and then its values
+abbrev pub refusal_text : Refusal → List ℕ
+refusal_text e = decimal (number e) ++ values_text (values e)
 
 -- what a call tells: nothing where it is admitted, else the number and then the values
 abbrev pub told : {T : Type 0} → Result T Refusal → List ℕ

@@ -1,6 +1,6 @@
 // What stands at a place of a page.
 
-ghost use Rattle.std.specs.Prelude.{◌≡◌, ◌+◌, ◌*◌};
+ghost use Rattle.std.specs.Prelude.{◌≡◌};
 ghost use Rattle.page.specs.Cells.{inked, sound, tidy};
 
 use style::{LAST_COLOUR, Style, Symbol, colour_over};
@@ -47,11 +47,4 @@ impl Cell {
             modifiers: (self.modifiers | style.add) & !style.remove,
         }
     }
-}
-
-// Where a place stands among the cells of a page, row by row.
-pub fn place(width: u16, x: u16, y: u16) -> usize
-    ensures value { result ≡ y * width + x }
-{
-    y as usize * width as usize + x as usize
 }

@@ -8,6 +8,7 @@ ghost use Rattle.page.specs.Layers.{window_page, window_rest, pair_page, pair_re
 use super::Surface;
 use super::cells::Cell;
 use super::refusals::Refusal;
+use super::sides::Sides;
 use style::Style;
 
 // A part of a surface, from a corner on, cut to what lies below.
@@ -29,16 +30,16 @@ impl<S: Surface> Surface for Window<S> {
 
     ghost lawful = { λ g. S.Surface.lawful g.below };
 
-    fn width(&self) -> u16 {
-        self.width.min(self.below.width().saturating_sub(self.x))
-    }
-
-    fn height(&self) -> u16 {
-        self.height.min(self.below.height().saturating_sub(self.y))
+    fn sides(&self) -> Sides {
+        let below = self.below.sides();
+        Sides {
+            width: self.width.min(below.width.saturating_sub(self.x)),
+            height: self.height.min(below.height.saturating_sub(self.y)),
+        }
     }
 
     fn read(&self, x: u16, y: u16) -> Option<Cell> {
-        if x < self.width() && y < self.height() {
+        if self.sides().hold(x, y) {
             self.below.read(self.x + x, self.y + y)
         } else {
             None
@@ -46,7 +47,7 @@ impl<S: Surface> Surface for Window<S> {
     }
 
     fn put(&mut self, x: u16, y: u16, symbol: &[u8], style: Style) -> Result<(), Refusal> {
-        if x >= self.width() || y >= self.height() {
+        if !self.sides().hold(x, y) {
             return Err(Refusal::Outside);
         }
         self.below.put(self.x + x, self.y + y, symbol, style)
@@ -58,14 +59,7 @@ impl<S: Surface> Window<S> {
     pub fn into_inner(self) -> S
         ensures value { result ≡ self.below }
     {
-        let Window {
-            below,
-            x: _,
-            y: _,
-            width: _,
-            height: _,
-        } = self;
-        below
+        self.below
     }
 }
 
@@ -85,16 +79,17 @@ impl<L: Surface, R: Surface> Surface for Beside<L, R> {
 
     ghost lawful = { λ g. L.Surface.lawful g.left × R.Surface.lawful g.right };
 
-    fn width(&self) -> u16 {
-        self.left.width().saturating_add(self.right.width())
-    }
-
-    fn height(&self) -> u16 {
-        self.left.height().min(self.right.height())
+    fn sides(&self) -> Sides {
+        let left = self.left.sides();
+        let right = self.right.sides();
+        Sides {
+            width: left.width.saturating_add(right.width),
+            height: left.height.min(right.height),
+        }
     }
 
     fn read(&self, x: u16, y: u16) -> Option<Cell> {
-        if x >= self.width() || y >= self.height() {
+        if !self.sides().hold(x, y) {
             return None;
         }
         let w = self.left.width();
@@ -106,7 +101,7 @@ impl<L: Surface, R: Surface> Surface for Beside<L, R> {
     }
 
     fn put(&mut self, x: u16, y: u16, symbol: &[u8], style: Style) -> Result<(), Refusal> {
-        if x >= self.width() || y >= self.height() {
+        if !self.sides().hold(x, y) {
             return Err(Refusal::Outside);
         }
         let w = self.left.width();
@@ -123,7 +118,6 @@ impl<L: Surface, R: Surface> Beside<L, R> {
     pub fn into_parts(self) -> (L, R)
         ensures value { result ≡ (self.left, self.right) }
     {
-        let Beside { left, right } = self;
-        (left, right)
+        (self.left, self.right)
     }
 }

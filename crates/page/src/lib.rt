@@ -16,10 +16,12 @@ ghost use Rattle.page.specs.Surfaces.{Page, read_at, Put};
 mod cells;
 mod layers;
 mod refusals;
+mod sides;
 
-pub use cells::{Cell, place};
+pub use cells::Cell;
 pub use layers::{Beside, Window};
-pub use refusals::{LAST_SIDE, Refusal, admit, check_memory, sides_fit};
+pub use refusals::Refusal;
+pub use sides::{LAST_SIDE, Sides};
 use style::Style;
 
 pub trait Surface {
@@ -35,15 +37,25 @@ pub trait Surface {
     // what its memory obeys besides
     ghost lawful: { Self → Type 0 };
 
-    fn width(&self) -> u16
-        ensures value { result ≡ (shows self.now).wide };
-
-    fn height(&self) -> u16
-        ensures value { result ≡ (shows self.now).high };
+    fn sides(&self) -> Sides
+        ensures wide { result.width ≡ (shows self.now).wide }
+        ensures high { result.height ≡ (shows self.now).high };
 
     fn read(&self, x: u16, y: u16) -> Option<Cell>
         ensures value { result ≡ read_at (shows self.now) x y };
 
     fn put(&mut self, x: u16, y: u16, symbol: &[u8], style: Style) -> Result<(), Refusal>
         ensures after { Put shows held rest lawful x y symbol.now style self.old self.new result };
+
+    final fn width(&self) -> u16
+        ensures value { result ≡ (shows self.now).wide }
+    {
+        self.sides().width
+    }
+
+    final fn height(&self) -> u16
+        ensures value { result ≡ (shows self.now).high }
+    {
+        self.sides().height
+    }
 }

@@ -34,7 +34,7 @@ module _ (bs : List ℕ) (w h q : ℕ) (v : Cell) (l : 512 * blocks (w * h) ≤ 
       (λ e. ap (cell_in (written bs (slot q) (cell_bytes v))) e
       ∙ cell_from_bytes (written bs (slot q) (cell_bytes v)) (slot q) v (written_at bs (slot q) (cell_bytes v) room refl) (sound_small v s)
       ∙ sym (cond-true (eqb k q) v (cell_in bs k) (eq-eqb k q e)))
-      (λ ne. cell_from_same (written bs (slot q) (cell_bytes v)) bs (slot k) (other k ne) ∙ sym (cond-false (eqb k q) v (cell_in bs k) (ne_eqb k q ne)))
+      (λ ne. cell_from_same (written bs (slot q) (cell_bytes v)) bs (slot k) (slot k) (other k ne) ∙ sym (cond-false (eqb k q) v (cell_in bs k) (ne_eqb k q ne)))
       (cases_eq k q)
 
   slot_lawful_lem : (k : ℕ) → slot_lawful bs (w * h) k (slot k) ≡ true → slot_lawful (written bs (slot q) (cell_bytes v)) (w * h) k (slot k) ≡ true
@@ -42,7 +42,7 @@ module _ (bs : List ℕ) (w h q : ℕ) (v : Cell) (l : 512 * blocks (w * h) ≤ 
       ⊎_elim
       (λ is. ap (λ m. slot_lawful (written bs (slot q) (cell_bytes v)) (w * h) m (slot m)) is
       ∙ slot_lawful_bytes (written bs (slot q) (cell_bytes v)) (slot q) v (written_at bs (slot q) (cell_bytes v) room refl) (sound_small v s) (w * h) q on s)
-      (λ ne. slot_lawful_same (written bs (slot q) (cell_bytes v)) bs (slot k) (other k ne) (w * h) k ∙ e)
+      (λ ne. slot_lawful_same (written bs (slot q) (cell_bytes v)) bs (slot k) (slot k) (other k ne) (w * h) k ∙ e)
       (cases_eq k q)
 
   cell_lawful : (b i : ℕ) → i < 31 → cell_test bs (w * h) b i ≡ true → cell_test (written bs (slot q) (cell_bytes v)) (w * h) b i ≡ true
@@ -51,7 +51,7 @@ module _ (bs : List ℕ) (w h q : ℕ) (v : Cell) (l : 512 * blocks (w * h) ≤ 
       ∙ slot_lawful_lem (31 * b + i) (ap (slot_lawful bs (w * h) (31 * b + i)) (slot_is b i lt) ∙ e)
 
   tail_same : (b : ℕ) (new : List ℕ) → holds (written bs (slot q) (cell_bytes v)) (512 * b + 496) new ≡ holds bs (512 * b + 496) new
-  tail_same b = holds_same (written bs (slot q) (cell_bytes v)) bs (512 * b + 496)
+  tail_same b = holds_same (written bs (slot q) (cell_bytes v)) bs (512 * b + 496) (512 * b + 496)
       (λ j lt. written_off bs (slot q) (cell_bytes v) room refl (512 * b + 496 + j)
       (⊎_elim (λ below. inr (omega arith)) (λ above. inl (omega arith)) (slot_tail q b)))
 

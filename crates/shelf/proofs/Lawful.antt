@@ -1,5 +1,6 @@
-use Rattle.std.proofs.Common.{◌≡◌, ℕ, zero, suc, ◌+◌, ◌-◌, ◌*◌, ◌<◌, ◌≤◌, Bool, true, false, cond, ◌&&◌, ltb, List, Some, None, sym, ap, ◌∙◌, ⊎_elim, arith}
+use Rattle.std.proofs.Common.{◌≡◌, ℕ, zero, suc, ◌+◌, ◌*◌, ◌<◌, ◌≤◌, Bool, true, false, cond, not, ◌&&◌, ltb, List, Some, None, Option, refl, sym, ap, ◌∙◌, ⊎_elim, arith}
 use Rattle.std.proofs.lemmas.Bool.{cases_eq, cases_Bool, cond-true, cond-false, lt-ltb, and_left}
+use Rattle.std.specs.List.{find, range_with_len}
 use Rattle.page.specs.Cells.{sound}
 use Rattle.shelf.specs.Bytes.{cell_from, cell_bytes, tail_bytes, no_bytes, every, holds}
 use Rattle.shelf.specs.Blocks.{slot_lawful, block_lawful, unlawful}
@@ -20,22 +21,16 @@ block_not bs w h b i l e = and_left (every 31 (cell_test bs (w * h) b)) (holds b
 pub block_tail : (bs : List ℕ) (w h b : ℕ) (r : Bool) → every 31 (cell_test bs (w * h) b) ≡ true → r ≡ holds bs (512 * b + 496) (tail_bytes b w h) → r ≡ block_lawful bs w h b
 block_tail bs w h b r e f = f ∙ sym (ap (λ t. t && holds bs (512 * b + 496) (tail_bytes b w h)) e)
 
-module _ (bs : List ℕ) (w h n b : ℕ) (l : b < n) where
-  step : unlawful bs w h (n - b) b ≡ cond (block_lawful bs w h b) (unlawful bs w h (n - (b + 1)) (b + 1)) (Some b)
-  unfolding unlawful
-  step = let e : n - b ≡ suc (n - (b + 1)) = omega arith in ap (λ k. unlawful bs w h k b) e
+turned : (t : Bool) (x y : Option ℕ) → cond (not t) x y ≡ cond t y x
+turned true x y = refl
+turned false x y = refl
 
-  -- the search goes on past a lawful block
-  pub unlawful_on : block_lawful bs w h b ≡ true → unlawful bs w h (n - b) b ≡ unlawful bs w h (n - (b + 1)) (b + 1)
-  unlawful_on t = step ∙ cond-true (block_lawful bs w h b) (unlawful bs w h (n - (b + 1)) (b + 1)) (Some b) t
-
-  -- and ends at another
-  pub unlawful_here : block_lawful bs w h b ≡ false → unlawful bs w h (n - b) b ≡ Some b
-  unlawful_here f = step ∙ cond-false (block_lawful bs w h b) (unlawful bs w h (n - (b + 1)) (b + 1)) (Some b) f
-
-pub unlawful-none : (bs : List ℕ) (w h n b : ℕ) → n ≤ b → unlawful bs w h (n - b) b ≡ None
+-- the search is the library's `find`
+pub find-unlawful : (bs : List ℕ) (w h n b : ℕ) → find (λ k. not (block_lawful bs w h k)) (range_with_len b n) ≡ unlawful bs w h n b
 unfolding unlawful
-unlawful-none bs w h n b l = let e : n - b ≡ 0 = omega arith in ap (λ k. unlawful bs w h k b) e
+find-unlawful bs w h zero b = refl
+find-unlawful bs w h (suc n) b =
+    ap (cond (not (block_lawful bs w h b)) (Some b)) (find-unlawful bs w h n (b + 1)) ∙ turned (block_lawful bs w h b) (Some b) (unlawful bs w h n (b + 1))
 
 -- where it finds none, every block is lawful
 pub lawful_from : (bs : List ℕ) (w h n b : ℕ) → unlawful bs w h n b ≡ None → (k : ℕ) → b ≤ k → k < b + n → block_lawful bs w h k ≡ true

@@ -1,5 +1,7 @@
-use Rattle.std.proofs.Common.{◌≡◌, ℕ, ◌+◌, ◌*◌, ◌/◌, ◌%◌, ◌^◌, ◌<◌, ◌≤◌, true, cond, ◌&&◌, eqb, ltb, ◌⊎◌, List, length, get_or, sym, ap, ◌∙◌, inl, inr, ⊎_elim, add-zero, arith, lit<}
+use Rattle.std.proofs.Common.{◌≡◌, ℕ, ◌+◌, ◌*◌, ◌/◌, ◌%◌, ◌^◌, ◌<◌, ◌≤◌, Bool, true, cond, ◌&&◌, eqb, ltb, ◌⊎◌, List, length, get_or, slice_range, sym, ap, ◌∙◌, inl, inr, ⊎_elim, add-zero, arith, lit<}
+use borrow.Rule.Slice.PartMut.{put_mid}
 use lib.Seq.{paste}
+use Rattle.std.proofs.lemmas.Slice.{put_mid-paste}
 use Rattle.std.proofs.lemmas.List.{places}
 use Rattle.std.proofs.lemmas.Bool.{cases_lt, eq-eqb}
 use Rattle.std.proofs.lemmas.List.Edits.{length-paste}
@@ -8,7 +10,8 @@ use Rattle.style.proofs.Symbols.{packed-unpacked}
 use Rattle.page.specs.declared.cells.Cell.{Cell}
 use Rattle.shelf.specs.Bytes.{at, slot, cell_from, cell_bytes, no_bytes, written, holds}
 use Rattle.shelf.specs.Blocks.{blocks, slot_lawful}
-use Rattle.shelf.proofs.Tests.{every_same, every_from}
+use Rattle.std.specs.Cmp.Lexicographic.{pointwise}
+use Rattle.shelf.proofs.Tests.{every_same, every_from, holds-is}
 use Rattle.shelf.proofs.Lawful.{slot-used}
 use Rattle.page.specs.Cells.{sound}
 
@@ -34,6 +37,10 @@ paste_off : (bs : List ℕ) (p : ℕ) (new : List ℕ) (m : ℕ) → p + m ≤ l
 paste_off bs p new m l n k (inl h) = grind (arith, places)
 paste_off bs p new m l n k (inr h) = grind (arith, places)
 
+-- as `copy_from_slice` writes them
+pub written_by : (bs : List ℕ) (p k : ℕ) (ys new : List ℕ) → ys ≡ new → 16 ≡ k → length new ≡ 16 → put_mid p k bs ys ≡ written bs p new
+written_by bs p k ys new e q n = put_mid-paste p k bs ys new 16 e q (sym n)
+
 module _ (bs : List ℕ) (p : ℕ) (new : List ℕ) (l : p + 16 ≤ length bs) (n : length new ≡ 16) where
   -- what is written stands there
   pub written_at : (j : ℕ) → j < 16 → at (written bs p new) (p + j) ≡ get_or new j 0
@@ -46,11 +53,12 @@ module _ (bs : List ℕ) (p : ℕ) (new : List ℕ) (l : p + 16 ≤ length bs) (
   pub length-written : length (written bs p new) ≡ length bs
   length-written = length-paste bs p new 16 l (omega arith)
 
-module _ (bs cs : List ℕ) (p : ℕ) (same : (j : ℕ) → j < 16 → at bs (p + j) ≡ at cs (p + j)) where
-  first : at bs p ≡ at cs p
-  first = ap (at bs) (sym (add-zero p)) ∙ same 0 (lit< tt) ∙ ap (at cs) (add-zero p)
+-- the same 16 bytes, in bs from p on and in cs from q on
+module _ (bs cs : List ℕ) (p q : ℕ) (same : (j : ℕ) → j < 16 → at bs (p + j) ≡ at cs (q + j)) where
+  first : at bs p ≡ at cs q
+  first = ap (at bs) (sym (add-zero p)) ∙ same 0 (lit< tt) ∙ ap (at cs) (add-zero q)
 
-  pub cell_from_same : cell_from bs p ≡ cell_from cs p
+  pub cell_from_same : cell_from bs p ≡ cell_from cs q
   cell_from_same =
       let e0 = first in
       let e1 = same 1 (lit< tt) in
@@ -66,14 +74,34 @@ module _ (bs cs : List ℕ) (p : ℕ) (same : (j : ℕ) → j < 16 → at bs (p 
       let e11 = same 11 (lit< tt) in
       cc
 
-  pub holds_same : (new : List ℕ) → holds bs p new ≡ holds cs p new
-  holds_same new = every_same 16 (λ i. eqb (at bs (p + i)) (get_or new i 0)) (λ i. eqb (at cs (p + i)) (get_or new i 0)) (λ k l. ap (λ v. eqb v (get_or new k 0)) (same k l))
+  pub holds_same : (new : List ℕ) → holds bs p new ≡ holds cs q new
+  holds_same new = every_same 16 (λ i. eqb (at bs (p + i)) (get_or new i 0)) (λ i. eqb (at cs (q + i)) (get_or new i 0)) (λ k l. ap (λ v. eqb v (get_or new k 0)) (same k l))
 
-  pub slot_lawful_same : (n k : ℕ) → slot_lawful bs n k p ≡ slot_lawful cs n k p
+  pub slot_lawful_same : (n k : ℕ) → slot_lawful bs n k p ≡ slot_lawful cs n k q
   slot_lawful_same n k =
       ap (λ c. cond (ltb k n) (sound c && holds bs p (cell_bytes c)) (holds bs p no_bytes)) cell_from_same
-      ∙ ap (λ b. cond (ltb k n) (sound (cell_from cs p) && b) (holds bs p no_bytes)) (holds_same (cell_bytes (cell_from cs p)))
-      ∙ ap (λ b. cond (ltb k n) (sound (cell_from cs p) && holds cs p (cell_bytes (cell_from cs p))) b) (holds_same no_bytes)
+      ∙ ap (λ b. cond (ltb k n) (sound (cell_from cs q) && b) (holds bs p no_bytes)) (holds_same (cell_bytes (cell_from cs q)))
+      ∙ ap (λ b. cond (ltb k n) (sound (cell_from cs q) && holds cs q (cell_bytes (cell_from cs q))) b) (holds_same no_bytes)
+
+-- 16 bytes that are cut out
+cut-at : (bs : List ℕ) (p : ℕ) → p + 16 ≤ length bs → (j : ℕ) → j < 16 → at (slice_range bs p (p + 16)) (0 + j) ≡ at bs (p + j)
+cut-at bs p l j h = grind (arith, places)
+
+length-cut : (bs : List ℕ) (p : ℕ) → p + 16 ≤ length bs → length (slice_range bs p (p + 16)) ≡ 16
+length-cut bs p l = grind (arith, places)
+
+-- and compared
+pub holds-cut : (bs : List ℕ) (p : ℕ) (cut new : List ℕ) (r : Bool) → p + 16 ≤ length bs → cut ≡ slice_range bs p (p + 16) → length new ≡ 16 → r ≡ pointwise eqb cut new → r ≡ holds bs p new
+holds-cut bs p cut new r l is n e =
+    holds-is (slice_range bs p (p + 16)) new r (length-cut bs p l) n (e ∙ ap (λ c. pointwise eqb c new) is)
+    ∙ holds_same (slice_range bs p (p + 16)) bs 0 p (cut-at bs p l) new
+
+-- and read as a cell
+pub cell_from-cut : (bs : List ℕ) (p : ℕ) (cut : List ℕ) → p + 16 ≤ length bs → cut ≡ slice_range bs p (p + 16) → cell_from cut 0 ≡ cell_from bs p
+cell_from-cut bs p cut l is = ap (λ c. cell_from c 0) is ∙ cell_from_same (slice_range bs p (p + 16)) bs 0 p (cut-at bs p l)
+
+pub slot_lawful-cut : (bs : List ℕ) (p : ℕ) (cut : List ℕ) (n k : ℕ) → p + 16 ≤ length bs → cut ≡ slice_range bs p (p + 16) → slot_lawful cut n k 0 ≡ slot_lawful bs n k p
+slot_lawful-cut bs p cut n k l is = ap (λ c. slot_lawful c n k 0) is ∙ slot_lawful_same (slice_range bs p (p + 16)) bs 0 p (cut-at bs p l) n k
 
 -- 16 bytes of a cell are read as the cell
 module _ (bs : List ℕ) (p : ℕ) (c : Cell) (stand : (j : ℕ) → j < 16 → at bs (p + j) ≡ get_or (cell_bytes c) j 0) (small : c.symbol.bytes < 2 ^ 64) where

@@ -3,6 +3,7 @@ use Rattle.std.specs.List.{range_with_len}
 use Rattle.page.specs.declared.cells.Cell.{Cell}
 use Rattle.page.specs.declared.refusals.Refusal.{Refusal}
 use Rattle.page.specs.declared.refusals.Refusal.TheVariants.{Block}
+use Rattle.page.specs.declared.sides.Sides.{Sides}
 use Rattle.page.specs.Cells.{sound}
 use Rattle.page.specs.Refusals.{sides}
 use Rattle.shelf.specs.Bytes.{at, cell_from, cell_bytes, tail_bytes, no_bytes, every, holds}
@@ -57,6 +58,18 @@ open_answer (Some b) = Err (Block b)
 abbrev pub open_told : Option ℕ → List ℕ
 open_told None = []
 open_told (Some b) = 8 ∷ b ∷ []
+
+-- the sides of the page that bytes hold, or the block that opening them refuses
+abbrev pub opened_as : ℕ → ℕ → Option ℕ → Result Sides Refusal
+opened_as w h None = Ok (record { width = w; height = h })
+opened_as w h (Some b) = Err (Block b)
+
+abbrev pub opened : List ℕ → Result Sides Refusal
+opened bs = opened_as (wide_of bs) (high_of bs) (fault bs)
+
+-- the sides of a page with no place
+abbrev pub no_sides : Sides
+no_sides = record { width = 0; height = 0 }
 
 -- the byte at k of a page of w by h whose cells are f
 abbrev pub shelf_byte : ℕ → ℕ → (ℕ → Cell) → ℕ → ℕ

@@ -1,83 +1,88 @@
 // Whether the bytes of a shelf are lawful.
 
 ghost use Rattle.std.specs.Prelude.{◌≡◌, ℕ, ◌+◌, ◌-◌, ◌*◌, ◌^◌, ◌<◌, ◌≤◌, length};
-ghost use Rattle.shelf.specs.Blocks.{blocks, shelf_length, slot_lawful, block_lawful, wide_of, high_of, unlawful, fault};
+ghost use Rattle.shelf.specs.Blocks.{blocks, slot_lawful, block_lawful, wide_of, high_of, unlawful, opened, no_sides};
+ghost use Rattle.std.specs.Result.{result_unwrap_or};
 
-use super::layout::{BLOCK, CELL, CELLS, TAIL, cell_bytes, holds, read_cell, tail_bytes};
-use page::sides_fit;
+use super::layout::{BLOCK, CELL, CELLS, TAIL, cell_bytes, cell_from, slot_at, tail_bytes};
+use page::{Refusal, Sides};
 
-pub fn blocks(width: u16, height: u16) -> usize
-    ensures value { result ≡ blocks (width * height) }
+// How many blocks a page of these sides needs.
+pub fn blocks(sides: Sides) -> usize
+    ensures value { result ≡ blocks (sides.width * sides.height) }
     ensures bound { result < 2 ^ 32 }
 {
-    (width as usize * height as usize + (CELLS - 1)) / CELLS
+    sides.cells().div_ceil(CELLS)
 }
 
-fn slot_lawful(bytes: &[u8], cells: usize, k: usize, p: usize) -> bool
-    requires { p + 16 ≤ length bytes.now }
-    ensures value { result ≡ slot_lawful bytes.now cells k p }
+// Whether 16 bytes are lawful for cell k of so many.
+fn slot_lawful(slot: [u8; CELL], cells: usize, k: usize) -> bool
+    ensures value { result ≡ slot_lawful slot cells k 0 }
 {
     if k >= cells {
-        return holds(bytes, p, &[0; CELL]);
+        return slot == [0; CELL];
     }
-    let cell = read_cell(bytes, p);
-    cell.is_sound() && holds(bytes, p, &cell_bytes(cell))
+    let cell = cell_from(slot);
+    cell.is_sound() && slot == cell_bytes(cell)
 }
 
-fn block_lawful(bytes: &[u8], width: u16, height: u16, block: usize) -> bool
-    requires { (512 * block + 512 ≤ length bytes.now) × (block < 2 ^ 32) }
-    ensures value { result ≡ block_lawful bytes.now width height block }
+fn block_lawful(bytes: &[u8], sides: Sides, b: usize) -> bool
+    requires { 512 * b + 512 ≤ length bytes.now }
+    ensures value { result ≡ block_lawful bytes.now sides.width sides.height b }
 {
-    let cells = width as usize * height as usize;
     for i in 0..CELLS {
-        if !slot_lawful(bytes, cells, CELLS * block + i, BLOCK * block + CELL * i) {
+        let slot = slot_at(bytes, BLOCK * b + CELL * i);
+        if !slot_lawful(slot, sides.cells(), CELLS * b + i) {
             return false;
         }
     }
-    holds(
-        bytes,
-        BLOCK * block + TAIL,
-        &tail_bytes(block as u32, width, height),
-    )
+    slot_at(bytes, BLOCK * b + TAIL) == tail_bytes(b, sides)
 }
 
 // The first block after block 0 that is not lawful.
-fn first_unlawful(bytes: &[u8], width: u16, height: u16, count: usize) -> Option<u64>
-    requires { (512 * count ≤ length bytes.now) × (count < 2 ^ 32) }
-    ensures value { result ≡ unlawful bytes.now width height (count - 1) 1 }
+fn first_unlawful(bytes: &[u8], sides: Sides, count: usize) -> Option<usize>
+    requires { 512 * count ≤ length bytes.now }
+    ensures value { result ≡ unlawful bytes.now sides.width sides.height (count - 1) 1 }
 {
-    for b in 1..count {
-        if !block_lawful(bytes, width, height, b) {
-            return Some(b as u64);
-        }
-    }
-    None
+    (1..count).find(|b| !block_lawful(bytes, sides, *b))
 }
 
-pub fn sides_of(bytes: &[u8]) -> (u16, u16)
+// The sides that block 0 tells.
+fn sides_of(bytes: &[u8]) -> Sides
     requires { 512 ≤ length bytes.now }
-    ensures value { result ≡ (wide_of bytes.now, high_of bytes.now) }
+    ensures wide { result.width ≡ wide_of bytes.now }
+    ensures high { result.height ≡ high_of bytes.now }
 {
-    (
-        u16::from_le_bytes([bytes[500], bytes[501]]),
-        u16::from_le_bytes([bytes[502], bytes[503]]),
-    )
+    Sides {
+        width: u16::from_le_bytes([bytes[500], bytes[501]]),
+        height: u16::from_le_bytes([bytes[502], bytes[503]]),
+    }
 }
 
-// The block that keeps bytes from being opened.
-pub fn fault(bytes: &[u8]) -> Option<u64>
-    ensures value { result ≡ fault bytes.now }
+// The sides of the page that bytes hold, or the block that keeps them from being opened.
+pub fn opened(bytes: &[u8]) -> Result<Sides, Refusal>
+    ensures value { result ≡ opened bytes.now }
 {
     if bytes.len() < BLOCK {
-        return Some(0);
+        return Err(Refusal::Block(0));
     }
-    let (width, height) = sides_of(bytes);
-    if !sides_fit(width, height) || !block_lawful(bytes, width, height, 0) {
-        return Some(0);
+    let sides = sides_of(bytes);
+    if !sides.fit() || !block_lawful(bytes, sides, 0) {
+        return Err(Refusal::Block(0));
     }
-    let count = blocks(width, height);
+    let count = blocks(sides);
     if bytes.len() != BLOCK * count {
-        return Some((bytes.len() / BLOCK) as u64);
+        return Err(Refusal::Block((bytes.len() / BLOCK) as u64));
     }
-    first_unlawful(bytes, width, height, count)
+    match first_unlawful(bytes, sides, count) {
+        None => Ok(sides),
+        Some(b) => Err(Refusal::Block(b as u64)),
+    }
+}
+
+// The same, with no sides where they are kept from it.
+pub fn opened_or_none(bytes: &[u8]) -> Sides
+    ensures value { result ≡ result_unwrap_or (opened bytes.now) no_sides }
+{
+    opened(bytes).unwrap_or(Sides::NONE)
 }

@@ -1,12 +1,12 @@
 // Where a cell stands in the bytes of a shelf, and how it is written there.
 
-ghost use Rattle.std.specs.Prelude.{◌≡◌, ℕ, ◌+◌, ◌*◌, ◌^◌, ◌<◌, ◌≤◌, map, length};
+ghost use Rattle.std.specs.Prelude.{◌≡◌, ℕ, ◌+◌, ◌*◌, ◌^◌, ◌<◌, ◌≤◌, map, length, slice_range};
 ghost use Rattle.std.specs.List.{range_with_len};
 ghost use Rattle.page.specs.Cells.{fresh};
 ghost use Rattle.shelf.specs.Blocks.{shelf_byte};
-ghost use Rattle.shelf.specs.Bytes.{slot, cell_from, cell_bytes, tail_bytes, no_bytes, written, holds};
+ghost use Rattle.shelf.specs.Bytes.{slot, cell_from, cell_bytes, tail_bytes, written};
 
-use page::Cell;
+use page::{Cell, Sides};
 use style::Symbol;
 
 pub const BLOCK: usize = 512;
@@ -24,120 +24,78 @@ pub fn slot(k: usize) -> usize
     k / CELLS * BLOCK + k % CELLS * CELL
 }
 
-fn read_symbol(bytes: &[u8], p: usize) -> u64
+// The 16 bytes from p on.
+pub fn slot_at(bytes: &[u8], p: usize) -> [u8; CELL]
     requires { p + 16 ≤ length bytes.now }
-    ensures value { result ≡ (cell_from bytes.now p).symbol.bytes }
+    ensures value { result ≡ slice_range bytes.now p (p + 16) }
 {
-    u64::from_le_bytes([
-        bytes[p],
-        bytes[p + 1],
-        bytes[p + 2],
-        bytes[p + 3],
-        bytes[p + 4],
-        bytes[p + 5],
-        bytes[p + 6],
-        bytes[p + 7],
-    ])
+    *bytes[p..p + CELL].as_array().unwrap()
 }
 
-pub fn read_cell(bytes: &[u8], p: usize) -> Cell
-    requires { p + 16 ≤ length bytes.now }
-    ensures value { result ≡ cell_from bytes.now p }
+// The cell that 16 bytes hold.
+pub fn cell_from(slot: [u8; CELL]) -> Cell
+    ensures value { result ≡ cell_from slot 0 }
 {
+    let mut symbol = [0; 8];
+    symbol.copy_from_slice(&slot[..8]);
     Cell {
         symbol: Symbol {
-            bytes: read_symbol(bytes, p),
-            len: bytes[p + 8],
+            bytes: u64::from_le_bytes(symbol),
+            len: slot[8],
         },
-        fg: bytes[p + 9],
-        bg: bytes[p + 10],
-        modifiers: bytes[p + 11],
+        fg: slot[9],
+        bg: slot[10],
+        modifiers: slot[11],
     }
 }
 
-pub fn cell_bytes(cell: Cell) -> [u8; 16]
+pub fn cell_bytes(cell: Cell) -> [u8; CELL]
     ensures value { result ≡ cell_bytes cell }
 {
-    let s = cell.symbol.to_bytes();
-    [
-        s[0],
-        s[1],
-        s[2],
-        s[3],
-        s[4],
-        s[5],
-        s[6],
-        s[7],
-        cell.symbol.len,
-        cell.fg,
-        cell.bg,
-        cell.modifiers,
-        0,
-        0,
-        0,
-        0,
-    ]
+    let mut slot = [0; CELL];
+    slot[..8].copy_from_slice(&cell.symbol.to_bytes());
+    slot[8..12].copy_from_slice(&[cell.symbol.len, cell.fg, cell.bg, cell.modifiers]);
+    slot
 }
 
-pub fn tail_bytes(block: u32, width: u16, height: u16) -> [u8; 16]
-    ensures value { result ≡ tail_bytes block width height }
+pub fn tail_bytes(block: usize, sides: Sides) -> [u8; CELL]
+    ensures value { result ≡ tail_bytes block sides.width sides.height }
 {
-    let b = block.to_le_bytes();
-    let w = width.to_le_bytes();
-    let h = height.to_le_bytes();
-    [
-        b[0], b[1], b[2], b[3], w[0], w[1], h[0], h[1], 0, 0, 0, 0, 0, 0, 0, 0,
-    ]
-}
-
-pub fn write_bytes(bytes: &mut [u8], p: usize, new: &[u8; 16])
-    requires { p + 16 ≤ length bytes.old }
-    ensures after { bytes.new ≡ written bytes.old p new.now }
-{
-    bytes[p..p + CELL].copy_from_slice(new);
+    let mut tail = [0; CELL];
+    tail[..4].copy_from_slice(&block.to_le_bytes()[..4]);
+    tail[4..6].copy_from_slice(&sides.width.to_le_bytes());
+    tail[6..8].copy_from_slice(&sides.height.to_le_bytes());
+    tail
 }
 
 // Writes the 16 bytes of a cell from p on.
+#[tactic(auto, using(crate::proofs::Slots::written_by))]
 pub fn write_cell(bytes: &mut [u8], p: usize, cell: Cell)
     requires { p + 16 ≤ length bytes.old }
     ensures after { bytes.new ≡ written bytes.old p (cell_bytes cell) }
 {
-    write_bytes(bytes, p, &cell_bytes(cell));
+    bytes[p..p + CELL].copy_from_slice(&cell_bytes(cell));
 }
 
-pub fn holds(bytes: &[u8], p: usize, new: &[u8; 16]) -> bool
-    requires { p + 16 ≤ length bytes.now }
-    ensures value { result ≡ holds bytes.now p new.now }
-{
-    for i in 0..CELL {
-        if bytes[p + i] != new[i] {
-            return false;
-        }
-    }
-    true
-}
-
-fn fresh_byte(width: u16, height: u16, k: usize) -> u8
-    requires { k < 2 ^ 40 }
-    ensures value { result ≡ shelf_byte width height (λ _. fresh) k }
+// What stands at k in a page whose cells are all fresh.
+fn fresh_byte(sides: Sides, k: usize) -> u8
+    ensures value { result ≡ shelf_byte sides.width sides.height (λ _. fresh) k }
 {
     let block = k / BLOCK;
     if k % BLOCK >= TAIL {
-        return tail_bytes(block as u32, width, height)[k % CELL];
+        return tail_bytes(block, sides)[k % CELL];
     }
-    let cells = width as usize * height as usize;
-    if CELLS * block + k % BLOCK / CELL < cells {
+    if CELLS * block + k % BLOCK / CELL < sides.cells() {
         cell_bytes(Cell::FRESH)[k % CELL]
     } else {
         0
     }
 }
 
-pub fn fill_fresh(bytes: &mut [u8], width: u16, height: u16)
-    requires { length bytes.old < 2 ^ 40 }
-    ensures after { bytes.new ≡ map (shelf_byte width height (λ _. fresh)) (range_with_len 0 (length bytes.old)) }
+pub fn fill_fresh(bytes: &mut [u8], sides: Sides)
+    ensures after { bytes.new ≡ map (shelf_byte sides.width sides.height (λ _. fresh)) (range_with_len 0 (length bytes.old)) }
 {
     for k in 0..bytes.len() {
-        bytes[k] = fresh_byte(width, height, k);
+        bytes[k] = fresh_byte(sides, k);
     }
 }

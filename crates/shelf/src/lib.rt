@@ -20,18 +20,17 @@ ghost use Rattle.shelf.specs.Shelves.{shelf_shows, shelf_held, shelf_rest, Shelf
 mod checks;
 mod layout;
 
-use checks::{blocks, fault, sides_of};
-use layout::{BLOCK, fill_fresh, read_cell, slot, write_cell};
-use page::{Cell, Refusal, Surface, admit, check_memory, place};
+use checks::{blocks, opened, opened_or_none};
+use layout::{BLOCK, cell_from, fill_fresh, slot, slot_at, write_cell};
+use page::{Cell, Refusal, Sides, Surface};
 use style::Style;
 
 // Makes the bytes a page of these sides, all cells fresh.
-fn freshen(bytes: &mut [u8], width: u16, height: u16)
-    requires length { length bytes.old ≡ shelf_length width height }
-    requires bound { length bytes.old < 2 ^ 40 }
-    ensures after { bytes.new ≡ shelved width height (λ _. fresh) }
+fn freshen(bytes: &mut [u8], sides: Sides)
+    requires { length bytes.old ≡ shelf_length sides.width sides.height }
+    ensures after { bytes.new ≡ shelved sides.width sides.height (λ _. fresh) }
 {
-    fill_fresh(bytes, width, height);
+    fill_fresh(bytes, sides);
 }
 
 #[derive(Drop)]
@@ -47,7 +46,8 @@ impl<'a> Shelf<'a> {
         ensures value { result ≡ memory_answer width height (shelf_length width height) (length bytes.now) }
         ensures numbers { told result ≡ memory_told width height (shelf_length width height) (length bytes.now) }
     {
-        check_memory(width, height, BLOCK * blocks(width, height), bytes.len())
+        let sides = Sides { width, height };
+        sides.check_memory(BLOCK * blocks(sides), bytes.len())
     }
 
     // The page of these sides over bytes that `check` admits, all cells fresh. Over others, which stay as
@@ -67,7 +67,7 @@ impl<'a> Shelf<'a> {
                 height: 0,
             };
         }
-        freshen(bytes, width, height);
+        freshen(bytes, Sides { width, height });
         Shelf {
             bytes,
             width,
@@ -80,10 +80,8 @@ impl<'a> Shelf<'a> {
         ensures value { result ≡ open_answer (fault bytes.now) }
         ensures numbers { told result ≡ open_told (fault bytes.now) }
     {
-        match fault(bytes) {
-            None => Ok(()),
-            Some(block) => Err(Refusal::Block(block)),
-        }
+        opened(bytes)?;
+        Ok(())
     }
 
     // The page that bytes which `check_open` admits hold. Over others it has sides of 0. The bytes stay.
@@ -94,33 +92,12 @@ impl<'a> Shelf<'a> {
         ensures held { result.bytes.ghost_name ≡ bytes.entry.ghost_name }
         ensures lawful { ShelfLawful result }
     {
-        if fault(bytes).is_some() {
-            return Shelf {
-                bytes,
-                width: 0,
-                height: 0,
-            };
-        }
-        let (width, height) = sides_of(bytes);
+        let Sides { width, height } = opened_or_none(bytes);
         Shelf {
             bytes,
             width,
             height,
         }
-    }
-
-    // The cell whose bytes begin at a place.
-    fn cell_from(&self, p: usize) -> Cell
-        requires { p + 16 ≤ length self.now.bytes.now }
-        ensures value { result ≡ tidy (cell_from self.now.bytes.now p) }
-    {
-        read_cell(self.bytes, p).tidy()
-    }
-
-    fn fits(&self) -> bool
-        ensures value { result ≡ fits self.now.width self.now.height (shelf_length self.now.width self.now.height) (length self.now.bytes.now) }
-    {
-        Shelf::check(self.bytes, self.width, self.height).is_ok()
     }
 }
 
@@ -133,30 +110,32 @@ impl<'a> Surface for Shelf<'a> {
 
     ghost lawful = { ShelfLawful };
 
-    fn width(&self) -> u16 {
-        if self.fits() { self.width } else { 0 }
-    }
-
-    fn height(&self) -> u16 {
-        if self.fits() { self.height } else { 0 }
+    fn sides(&self) -> Sides {
+        match Shelf::check(self.bytes, self.width, self.height) {
+            Ok(()) => Sides {
+                width: self.width,
+                height: self.height,
+            },
+            Err(_) => Sides::NONE,
+        }
     }
 
     fn read(&self, x: u16, y: u16) -> Option<Cell> {
-        if x < self.width() && y < self.height() {
-            Some(self.cell_from(slot(place(self.width, x, y))))
-        } else {
-            None
+        let sides = self.sides();
+        if !sides.hold(x, y) {
+            return None;
         }
+        Some(cell_from(slot_at(self.bytes, slot(sides.place(x, y)))).tidy())
     }
 
     fn put(&mut self, x: u16, y: u16, symbol: &[u8], style: Style) -> Result<(), Refusal>
         ensures after { Put shelf_shows shelf_held shelf_rest ShelfLawful x y symbol.now style self.old self.new result }
         ensures memory { self.new.bytes.now ≡ (if is_ok result then bytes_put self.old.bytes.now (y * self.old.width + x) (symbol_of symbol.now) style else self.old.bytes.now) }
     {
-        let symbol = admit(self.width(), self.height(), x, y, symbol, style)?;
-        let p = slot(place(self.width, x, y));
-        let cell = self.cell_from(p).inked(symbol, style);
-        write_cell(self.bytes, p, cell);
+        let sides = self.sides();
+        let symbol = sides.admit(x, y, symbol, style)?;
+        let cell = self.read(x, y).unwrap().inked(symbol, style);
+        write_cell(self.bytes, slot(sides.place(x, y)), cell);
         Ok(())
     }
 }

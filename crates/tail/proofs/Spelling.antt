@@ -74,7 +74,7 @@ same_none : (bs cs : List ℕ) → encodes cs ≡ bs → eqb (length bs) 0 ≡ e
 same_none bs [] e = ap (λ l. eqb (length l) 0) (sym e)
 same_none bs (c ∷ cs) e = ne_eqb (length bs) 0 (λ q. omega (arith, step_length bs (encodes cs) c (sym e))) ∙ sym (ne_eqb (suc (length cs)) 0 (λ q. omega arith))
 
-pub same_empty : (bs : List ℕ) → IsUtf8 bs → eqb (length bs) 0 ≡ eqb (length (chars bs)) 0
+same_empty : (bs : List ℕ) → IsUtf8 bs → eqb (length bs) 0 ≡ eqb (length (chars bs)) 0
 same_empty bs u = same_none bs (chars bs) (encodes-chars bs u)
 
 any_none : (p : ℕ → Bool) (cs : List ℕ) → NonePass p cs → any p cs ≡ false
@@ -114,5 +114,9 @@ past-empty p [] = refl
 past-empty p (c ∷ cs) = elim (p c) as (λ b. eqb (length (cond b (past p cs) (c ∷ cs))) 0 ≡ (b && all p cs)) [ true ↦ past-empty p cs | false ↦ ne_eqb (suc (length cs)) 0 (λ q. omega arith) ]
 
 -- a text is blank if `trim_start` leaves nothing
-pub blank_text : (bs r : List ℕ) → IsUtf8 r → r ≡ trim_start bs → eqb (length r) 0 ≡ all is_whitespace (chars bs)
-blank_text bs r v h = same_empty r v ∙ (ap (λ l. eqb (length l) 0) (trim_start_chars bs r v h) ∙ past-empty is_whitespace (chars bs))
+pub blank_by : (bs r : List ℕ) (b x : Bool) → IsUtf8 r → r ≡ trim_start bs → b ≡ eqb (length r) 0 → b ≡ x → all is_whitespace (chars bs) ≡ x
+blank_by bs r b x v h e f = sym (e ∙ (same_empty r v ∙ (ap (λ l. eqb (length l) 0) (trim_start_chars bs r v h) ∙ past-empty is_whitespace (chars bs)))) ∙ f
+
+-- a text of the characters cs has none if it has no bytes
+pub empty_by : (bs cs : List ℕ) (b x : Bool) → IsUtf8 bs → chars bs ≡ cs → b ≡ eqb (length bs) 0 → b ≡ x → eqb (length cs) 0 ≡ x
+empty_by bs cs b x u e f g = sym (ap (λ l. eqb (length l) 0) e) ∙ (sym (f ∙ same_empty bs u) ∙ g)

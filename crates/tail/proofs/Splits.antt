@@ -6,7 +6,7 @@ use Rattle.std.specs.Str.Iter.{split_steps, split_text, split_has_more, split_pa
 use Rattle.std.proofs.lemmas.Iterator.{YieldsList}
 use Rattle.std.proofs.lemmas.Iterator.Splits.{YieldsList-from_shown_while}
 use Rattle.std.specs.Str.{NonePass, IsCharBoundary, chars}
-use Rattle.std.proofs.lemmas.List.{append-nil, take-append-drop, length-drop}
+use Rattle.std.proofs.lemmas.List.{take-append-drop, length-drop}
 use Rattle.std.proofs.lemmas.Bool.{cond-true, cond-false, eq-eqb}
 use Rattle.std.proofs.lemmas.Str.{chars_from_encodes, IsUtf8-take, IsUtf8-drop, IsCharBoundary-before_ascii, encode_ascii, len_utf8_bounds}
 use Rattle.tail.specs.Lines.{parts, onto}

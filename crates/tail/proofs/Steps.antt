@@ -3,6 +3,7 @@ use Rattle.std.proofs.Common.{◌≡◌, ℕ, ◌≤◌, Bool, true, false, cond
 use Rattle.std.specs.Char.{is_whitespace}
 use Rattle.std.specs.List.{prefix_len}
 use Rattle.std.proofs.lemmas.Bool.{cond-true, cond-false, eq-eqb, ne_eqb, eqb-true, lt-leb, leb-true, leb-false, and_left, and_right, and_parts, or_from, cases_Bool, cond_both}
+use Rattle.std.proofs.Math.Bool.{and-true}
 use Rattle.tail.specs.Texts.{all, any, is, past, starts_with}
 use Rattle.tail.specs.Fences.{sign, may_follow, opens, closes, fence, fence_below}
 use Rattle.tail.specs.Scanning.{mark_class, class_of, Sound, stepped}
@@ -62,12 +63,8 @@ module _ (m : Mark) (k : ℕ) where
   same_self : (w : Mark) → eqb (sign w) (sign w) ≡ true
   same_self w = eq-eqb (sign w) (sign w) refl
 
-  and_true : (b : Bool) → (b && true) ≡ b
-  and_true true = refl
-  and_true false = refl
-
   open_by : (n : ℕ) (x y z : Bool) → (x ≡ false → leb n k ≡ false) → stepped (Some (fence m n)) (cond x (cond y (Bare (fence m k)) (cond z (Info (fence m k)) Other)) Other) ≡ cond (leb n k && y) None (Some (fence m n))
-  open_by n true true z h = ap (λ b. cond (b && leb n k) None (Some (fence m n))) (same_self m) ∙ sym (ap (λ b. cond b None (Some (fence m n))) (and_true (leb n k)))
+  open_by n true true z h = ap (λ b. cond (b && leb n k) None (Some (fence m n))) (same_self m) ∙ sym (ap (λ b. cond b None (Some (fence m n))) (and-true (leb n k)))
   open_by n true false true h = sym (cond-false (leb n k && false) None (Some (fence m n)) (and_right (leb n k) false refl))
   open_by n true false false h = sym (cond-false (leb n k && false) None (Some (fence m n)) (and_right (leb n k) false refl))
   open_by n false y z h = sym (cond-false (leb n k && y) None (Some (fence m n)) (and_left (leb n k) y (h refl)))

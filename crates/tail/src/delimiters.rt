@@ -26,7 +26,7 @@ pub fn delimiter_charset(line: &str) -> bool
     ensures { result ≡ unfinished (chars line.now) }
 {
     let trimmed = line.trim();
-    !trimmed.is_empty() && trimmed.chars().all(|c| delimiter_char(c))
+    !trimmed.is_empty() && trimmed.chars().all(delimiter_char)
 }
 
 // Whether the line is a complete delimiter row for so many entries.
@@ -34,5 +34,5 @@ pub fn complete(line: &str, cols: usize) -> bool
     ensures { result ≡ complete cols (chars line.now) }
 {
     // no entry with a backslash delimits, so here each pipe parts two entries
-    undecorated(line).split('|').all(|entry| delimits(entry)) && cell_count(line) == cols
+    cell_count(line) == cols && undecorated(line).split('|').all(delimits)
 }

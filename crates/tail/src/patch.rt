@@ -1,6 +1,5 @@
 // What is put in place of a tail, and how it is written.
 ghost use Rattle.std.specs.Prelude.{◌≡◌, ◌+◌, ◌*◌, ◌≤◌, ◌++◌, length, take, drop};
-ghost use Rattle.std.proofs.Math.Seq.{paste};
 ghost use Rattle.tail.specs.Entries.{delimiter_row};
 ghost use Rattle.tail.specs.Patches.{patched, size};
 
@@ -12,18 +11,16 @@ pub struct Patch<'a> {
     pub cols: usize,
 }
 
-// Writes a delimiter row of so many entries at a place of the output. Gives the place behind it.
-fn delimiter_row(out: &mut [u8], at: usize, cols: usize) -> usize
-    requires { at + (1 + 4 * cols) ≤ length out.old }
-    ensures value { result ≡ at + (1 + 4 * cols) }
-    ensures after { out.new ≡ paste out.old at (delimiter_row cols) (1 + 4 * cols) }
+// Writes a delimiter row of so many entries to the front of the output.
+fn delimiter_row(out: &mut [u8], cols: usize)
+    requires { 1 + 4 * cols ≤ length out.old }
+    ensures { out.new ≡ delimiter_row cols ++ drop (1 + 4 * cols) out.old }
 {
-    out[at] = b'|';
+    out[0] = b'|';
     for k in 0..cols {
-        let place = at + 1 + 4 * k;
+        let place = 1 + 4 * k;
         out[place..place + 4].copy_from_slice(b"---|");
     }
-    at + 1 + 4 * cols
 }
 
 impl<'a> Patch<'a> {
@@ -47,6 +44,7 @@ impl<'a> Patch<'a> {
             out[at] = b'\n';
             at += 1;
         }
-        delimiter_row(out, at, self.cols)
+        delimiter_row(&mut out[at..], self.cols);
+        at + 1 + 4 * self.cols
     }
 }

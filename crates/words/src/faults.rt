@@ -55,27 +55,19 @@ impl fmt::Display for Fault {
     }
 }
 
-impl From<AllocError> for Fault {
+// An error that says that memory is short. Text that is written to a `String` fails for want of memory alone.
+pub trait Shortage: Drop {}
+
+impl Shortage for AllocError {}
+
+impl<T: Drop> Shortage for AllocFailed<T> {}
+
+impl Shortage for fmt::Error {}
+
+impl<E: Shortage> From<E> for Fault {
     ghost from_gives = { λ _ r. r ≡ NoMemory };
 
-    fn from(_e: AllocError) -> Fault {
-        Fault::NoMemory
-    }
-}
-
-impl<T: Drop> From<AllocFailed<T>> for Fault {
-    ghost from_gives = { λ _ r. r ≡ NoMemory };
-
-    fn from(_e: AllocFailed<T>) -> Fault {
-        Fault::NoMemory
-    }
-}
-
-// Text that is written to a `String` fails for want of memory alone.
-impl From<fmt::Error> for Fault {
-    ghost from_gives = { λ _ r. r ≡ NoMemory };
-
-    fn from(_e: fmt::Error) -> Fault {
+    fn from(_e: E) -> Fault {
         Fault::NoMemory
     }
 }

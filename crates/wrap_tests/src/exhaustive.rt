@@ -22,8 +22,8 @@ fn mixed(digest: u64, byte: usize) -> u64 {
 fn numbered(mut number: u32) -> [Glyph; 6] {
     let kinds = [glyph(b'a'), glyph(b' '), glyph(b'A')];
     let mut line = [glyph(b'a'); 6];
-    for place in 0..6 {
-        line[place] = kinds[(number % 3) as usize];
+    for place in &mut line {
+        *place = kinds[(number % 3) as usize];
         number /= 3;
     }
     line
@@ -55,8 +55,7 @@ fn check_length<R: BreakingRule>(
     let mut all = 0u32;
     let mut digest = NO_DIGEST;
     for number in 0..LINES[length] {
-        let glyphs = numbered(number);
-        let line = &glyphs[0..length];
+        let line = &numbered(number)[..length];
         let (rows, mixed) = walked(rule, line, width, digest);
         assert_eq!(rt; row_count(rule, line, width), rows as usize);
         digest = mixed;
@@ -66,11 +65,9 @@ fn check_length<R: BreakingRule>(
 }
 
 fn check_all<R: BreakingRule>(rt: &impl Abort, rule: &R, stored: &Stored) {
-    for length in 0..7 {
-        for column in 0..8 {
-            let (rows, digest) = check_length(rt, rule, length, column as u16 + 1);
-            assert_eq!(rt; rows, stored.rows[length][column]);
-            assert_eq!(rt; digest, stored.digests[length][column]);
+    for (length, (rows, digests)) in stored.rows.iter().zip(&stored.digests).enumerate() {
+        for (width, (rows, digest)) in (1..).zip(rows.iter().zip(digests)) {
+            assert_eq!(rt; check_length(rt, rule, length, width), (*rows, *digest));
         }
     }
 }

@@ -3,8 +3,6 @@
 use glyphs::Glyph;
 use style::{Style, Symbol};
 
-pub const LONGEST: usize = 16;
-
 pub fn glyph(byte: u8) -> Glyph {
     let symbol = Symbol {
         bytes: byte as u64,
@@ -16,15 +14,4 @@ pub fn glyph(byte: u8) -> Glyph {
         width,
         style: Style::PLAIN,
     }
-}
-
-// The glyphs of a text, with spaces behind them.
-pub fn line_of(text: &[u8]) -> [Glyph; 16] {
-    let mut line = [glyph(b' '); 16];
-    for (place, byte) in text.iter().enumerate() {
-        if place < LONGEST {
-            line[place] = glyph(*byte);
-        }
-    }
-    line
 }

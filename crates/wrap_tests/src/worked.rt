@@ -1,22 +1,25 @@
-use super::lines::{LONGEST, line_of};
+ghost use Rattle.std.specs.Prelude.{◌<◌, ◌^◌};
+
+use super::lines::glyph;
 use std::process::Abort;
-use wrap::{BreakingRule, CuttingRule, WordRule, row_count};
+use wrap::{BreakingRule, CuttingRule, Rows, WordRule, row_count};
 
 // The rows of a text are these, each by its start and end.
-fn check_rows<R: BreakingRule>(
+fn check_rows<R: BreakingRule, const N: usize>(
     rt: &impl Abort,
     rule: &R,
-    text: &[u8],
+    text: &[u8; N],
     width: u16,
     rows: &[(usize, usize)],
-) {
-    assert!(rt; text.len() <= LONGEST);
-    let glyphs = line_of(text);
-    let line = &glyphs[0..text.len()];
-    assert_eq!(rt; row_count(rule, line, width), rows.len());
+)
+    requires { N < 2 ^ 32 }
+{
+    let line = text.map(glyph);
+    assert_eq!(rt; row_count(rule, &line, width), rows.len());
+    assert!(rt; N == 0 || Rows::new(rule, &line, width).eq(rows.iter().copied()));
     let mut start = 0;
     for (from, to) in rows {
-        let (end, next) = rule.break_row(line, width, start);
+        let (end, next) = rule.break_row(&line, width, start);
         assert_eq!(rt; start, *from);
         assert_eq!(rt; end, *to);
         start = next;
@@ -101,9 +104,8 @@ fn at_width_zero_the_rest_of_the_line_is_the_row(rt: HostRuntime) {
 
 #[test]
 fn a_start_past_the_line_gets_an_empty_row_there(rt: HostRuntime) {
-    let glyphs = line_of(b"a b");
-    let line = &glyphs[0..3];
-    assert!(rt; WordRule.break_row(line, 2, 3) == (3, 3));
-    assert!(rt; WordRule.break_row(line, 2, 9) == (9, 9));
-    assert!(rt; CuttingRule.break_row(line, 0, 9) == (9, 9));
+    let line = b"a b".map(glyph);
+    assert_eq!(rt; WordRule.break_row(&line, 2, 3), (3, 3));
+    assert_eq!(rt; WordRule.break_row(&line, 2, 9), (9, 9));
+    assert_eq!(rt; CuttingRule.break_row(&line, 0, 9), (9, 9));
 }

@@ -1,20 +1,9 @@
-use Rattle.std.proofs.Common.{◌+◌, ◌-◌, sym, ◌∙◌, arith, take-append-drop, rules}
-use Rattle.glyphs.proofs.Walking.{filled, part_filled}
+use Rattle.std.proofs.Common.{arith}
+use Rattle.std.proofs.lemmas.Grind.{common_steps}
+use Rattle.std.proofs.lemmas.List.{take-replicate, length-replicate, drop-drop}
 use Rattle.glyphs.proofs.cuts.fill.Goals as goal
 
-pub returns-then-n-gt0 : goal.returns-then-n-gt0
-returns-then-n-gt0 c =
-    let gs = c.args.glyphs.now in
-    let n = c.fitting-n.result in
-    record {
-      value = search rules;
-      after = part_filled gs c.fill.new.self c.args.from c.args.times n (c.args.from + n - c.args.from) c.args.glyph (omega arith) (omega arith) (c.fill.ensures.after (λ y h. h));
-    }
-
-pub returns-else-n-gt0 : goal.returns-else-n-gt0
-returns-else-n-gt0 c =
-    let gs = c.args.glyphs.now in
-    record {
-      value = search rules;
-      after = sym (take-append-drop c.args.from gs) ∙ filled gs c.args.from c.args.times 0 c.args.glyph (omega arith);
-    }
+pub returns-then-n-gt0-clause-after : goal.returns-then-n-gt0-clause-after
+returns-then-n-gt0-clause-after c =
+    let e = c.fill.ensures.after (λ y h. h) in
+    grind (arith, common_steps, take-replicate, length-replicate, drop-drop)

@@ -1,23 +1,32 @@
-use Rattle.std.proofs.Common.{ℕ, cond, length, is_some, sym, refl, ap, ◌∙◌, subst}
+use Rattle.std.proofs.Common.{◌≡◌, true, false, cond, length, is_some, sym, ap, ◌∙◌, subst, ⊎_elim, arith}
+use Rattle.std.proofs.lemmas.Bool.{cases_Bool}
+use Rattle.page.specs.declared.sides.Sides.{Sides}
 use Rattle.page.specs.Rows.{fits}
-use Rattle.shelf.specs.Blocks.{shelf_length, wide_of, high_of, Lawful}
-use Rattle.shelf.proofs.Opened.{opened}
+use Rattle.shelf.specs.Blocks.{shelf_length, wide_of, high_of, fault, no_sides, Lawful}
+use Rattle.shelf.proofs.Opened.{whole, is_opened, is_refused}
+use Rattle.shelf.proofs.Shelf.open.Goals.{After-opened_or_none-width}
 use Rattle.shelf.proofs.Shelf.open.Goals as goal
 
-pub returns : goal.returns
-returns c =
+module _ (c : After-opened_or_none-width) where
+  opened : is_some (fault c.args.bytes.now) ≡ false → c.opened_or_none-width.result ≡ record { width = wide_of c.args.bytes.now; height = high_of c.args.bytes.now }
+  opened f = c.opened_or_none-width.ensures.value ∙ is_opened _ _ (fault c.args.bytes.now) f
+
+  refused : is_some (fault c.args.bytes.now) ≡ true → c.opened_or_none-width.result ≡ no_sides
+  refused t = c.opened_or_none-width.ensures.value ∙ is_refused _ _ (fault c.args.bytes.now) t
+
+pub returns-clause-high : goal.returns-clause-high
+returns-clause-high c =
     let bs = c.args.bytes.now in
-    let whole = opened bs (sym (ap is_some c.fault.ensures.value) ∙ sym c.is_some.ensures ∙ c.if-is_some.false) in
-    let ew = ap (λ (p : ℕ × ℕ). p.0) c.sides_of-width.ensures.value in
-    let eh = ap (λ (p : ℕ × ℕ). p.1) c.sides_of-width.ensures.value in
-    record {
-      memory = refl;
-      wide = ap (λ w. cond (fits w c.sides_of-width.result.1 (shelf_length w c.sides_of-width.result.1) (length bs)) w 0) ew
-          ∙ ap (λ h. cond (fits (wide_of bs) h (shelf_length (wide_of bs) h) (length bs)) (wide_of bs) 0) eh
-          ∙ ap (λ b. cond b (wide_of bs) 0) whole.fit ∙ sym (ap (λ b. cond b 0 (wide_of bs)) whole.none);
-      high = ap (λ w. cond (fits w c.sides_of-width.result.1 (shelf_length w c.sides_of-width.result.1) (length bs)) c.sides_of-width.result.1 0) ew
-          ∙ ap (λ h. cond (fits (wide_of bs) h (shelf_length (wide_of bs) h) (length bs)) h 0) eh
-          ∙ ap (λ b. cond b (high_of bs) 0) whole.fit ∙ sym (ap (λ b. cond b 0 (high_of bs)) whole.none);
-      held = refl;
-      lawful = subst (λ h. Lawful bs c.sides_of-width.result.0 h) (sym eh) (subst (λ w. Lawful bs w (high_of bs)) (sym ew) whole.lawful);
-    }
+    ⊎_elim
+    (λ t. ap (λ (s : Sides). cond (fits s.width s.height (shelf_length s.width s.height) (length bs)) s.height 0) (refused c t) ∙ sym (ap (λ b. cond b 0 (high_of bs)) t))
+    (λ f. ap (λ (s : Sides). cond (fits s.width s.height (shelf_length s.width s.height) (length bs)) s.height 0) (opened c f)
+    ∙ ap (λ b. cond b (high_of bs) 0) (whole bs f).fit ∙ sym (ap (λ b. cond b 0 (high_of bs)) f))
+    (cases_Bool (is_some (fault bs)))
+
+pub returns-clause-lawful : goal.returns-clause-lawful
+returns-clause-lawful c =
+    let bs = c.args.bytes.now in
+    ⊎_elim
+    (λ t. subst (λ (s : Sides). Lawful bs s.width s.height) (sym (refused c t)) (λ b l. absurd (omega arith)))
+    (λ f. subst (λ (s : Sides). Lawful bs s.width s.height) (sym (opened c f)) (whole bs f).lawful)
+    (cases_Bool (is_some (fault bs)))

@@ -1,7 +1,6 @@
-use Rattle.std.proofs.Common.{◌≡◌, ◌+◌, ◌*◌}
-use lib.Seq.{paste}
-use Rattle.tail.specs.Entries.{dashes}
+use Rattle.std.proofs.Common.{◌≡◌, ◌+◌, ◌*◌, ◌++◌, drop}
+use Rattle.tail.specs.Entries.{delimiter_row}
 use Rattle.tail.proofs.patch.delimiter_row.Given as goal
 
 abbrev pub invariant-loop-k : goal.invariant-loop-k
-invariant-loop-k l = l.out ≡ paste l.initial.out (l.at + 1) (dashes l.k) (4 * l.k)
+invariant-loop-k l = l.out ≡ delimiter_row l.k ++ drop (1 + 4 * l.k) l.fn.out

@@ -1,30 +1,38 @@
-use Rattle.std.proofs.Common.{◌≡◌, ◌+◌, ◌*◌, ◌<◌, Bool, cond, [], ◌∷◌, ◌++◌, length, take, drop, set, sym, ap, ◌∙◌, arith}
+use Rattle.std.proofs.Common.{◌≡◌, ℕ, ◌+◌, ◌*◌, ◌<◌, cond, [], ◌∷◌, ◌++◌, length, take, drop, set, sym, refl, ap, ◌∙◌, append_assoc, arith}
+use Rattle.std.proofs.lemmas.List.{length-append, take_at}
 use Rattle.tail.specs.Entries.{delimiter_row}
-use Rattle.std.proofs.lemmas.List.{take_at}
-use Rattle.tail.specs.Patches.{patched}
-use Rattle.tail.proofs.Pastes.{written-plain, written_fed, length-patched}
+use Rattle.tail.specs.Patches.{patched, size}
+use Rattle.tail.proofs.Pastes.{length-patched, row_behind, fed, all_two}
 use Rattle.tail.proofs.patch.Patch.write.Goals as goal
 use Rattle.tail.proofs.patch.Patch.write.Goals.{then-self, else-self}
 
-pub returns : goal.returns
-returns c =
-    let p = c.args.self in
+pub returns-clause-after : goal.returns-clause-after
+returns-clause-after c =
+    let s = c.args.self.kept.now in
+    let row = delimiter_row c.args.self.cols in
+    let m = 1 + 4 * c.args.self.cols in
     let out = c.args.out.now in
-    let s = p.kept.now in
-    let n = p.cols in
-    let w = patched p in
-    let f = λ (b : Bool). s ++ (cond b (10 ∷ []) [] ++ delimiter_row n) in
+    let x = c.if-self.out in
+    let z = c.delimiter_row.new.out in
+    let at = c.if-self.at in
     let copied = c.copy_from_slice.ensures.after ∙ c.as_bytes.ensures.value in
-    let after : c.delimiter_row.new.out ≡ patched c.args.self ++ drop (length (patched c.args.self)) c.args.out.now = elim c.if-self.branch [
+    elim c.if-self.branch [
       | then-self q ↦ let room : length c.args.self.kept.now < length c.args.out.now = omega (arith, c.requires) in
-          written_fed out s n c.if-self.out c.delimiter_row.new.out c.if-self.at room (q.out-is ∙ ap (λ l. set (l ++ drop (length s) out) (length s) 10) copied) q.at-is c.delimiter_row.ensures.after ∙ sym (ap (λ b. f b ++ drop (length (f b)) out) q.if-self.true)
+          row_behind (s ++ (10 ∷ [])) (drop (length s + 1) out) x z row at m (q.out-is ∙ (ap (λ l. set (l ++ drop (length s) out) (length s) 10) copied ∙ fed s out room)) (q.at-is ∙ sym (length-append s (10 ∷ []))) c.delimiter_row.ensures
+          ∙ (all_two (s ++ (10 ∷ [])) row out (length s + 1) m (length s + 1 + m) refl ∙ ap (λ l. l ++ drop (length s + 1 + m) out) (append_assoc s (10 ∷ []) row)
+          ∙ sym (ap (λ b. (s ++ (cond b (10 ∷ []) [] ++ row)) ++ drop (length s + cond b 1 0 + m) out) q.if-self.true))
       | else-self q ↦
-          written-plain out s n c.if-self.out c.delimiter_row.new.out c.if-self.at (q.out-is ∙ ap (λ l. l ++ drop (length s) out) copied) q.at-is c.delimiter_row.ensures.after ∙ sym (ap (λ b. f b ++ drop (length (f b)) out) q.if-self.false)
+          row_behind s (drop (length s) out) x z row at m (q.out-is ∙ ap (λ l. l ++ drop (length s) out) copied) q.at-is c.delimiter_row.ensures
+          ∙ (all_two s row out (length s) m (length s + 0 + m) (let z : length c.args.self.kept.now + 0 + (1 + 4 * c.args.self.cols) ≡ length c.args.self.kept.now + (1 + 4 * c.args.self.cols) = omega arith in z)
+          ∙ sym (ap (λ b. (s ++ (cond b (10 ∷ []) [] ++ row)) ++ drop (length s + cond b 1 0 + m) out) q.if-self.false))
+    ]
+
+pub returns-clause-text : goal.returns-clause-text
+returns-clause-text c =
+    let p = c.args.self in
+    let n = c.if-self.at + 1 + 4 * c.args.self.cols in
+    let whole : c.if-self.at + 1 + 4 * c.args.self.cols ≡ size c.args.self = elim c.if-self.branch [
+      | then-self q ↦ let z : cond {A = ℕ} c.args.self.line_feed 1 0 ≡ 1 = ap (λ b. cond b 1 0) q.if-self.true in omega (arith, q.at-is)
+      | else-self q ↦ let z : cond {A = ℕ} c.args.self.line_feed 1 0 ≡ 0 = ap (λ b. cond b 1 0) q.if-self.false in omega (arith, q.at-is)
     ] in
-    let long = length-patched p in
-    let place : c.if-self.at ≡ length c.args.self.kept.now + cond c.args.self.line_feed 1 0 = elim c.if-self.branch [
-      | then-self q ↦ q.at-is ∙ sym (ap (λ b. length s + cond b 1 0) q.if-self.true)
-      | else-self q ↦ let z : length c.args.self.kept.now ≡ length c.args.self.kept.now + 0 = omega arith in q.at-is ∙ (z ∙ sym (ap (λ b. length s + cond b 1 0) q.if-self.false))
-    ] in
-    let value = c.delimiter_row.ensures.value ∙ ap (λ m. m + (1 + 4 * n)) place in
-    record { value = value; after = after ∙ ap (λ m. w ++ drop m out) long; text = ap (take c.delimiter_row.result) after ∙ take_at w (drop (length w) out) c.delimiter_row.result (long ∙ sym value) }
+    ap (take n) (returns-clause-after c) ∙ take_at (patched p) (drop (size p) c.args.out.now) n (length-patched p ∙ sym whole)
