@@ -4,6 +4,7 @@ use std::alloc::{AllocError, AllocFailed};
 use std::{fmt, io};
 use words::Fault;
 
+#[derive(Drop)]
 pub enum Stop {
     Line(Fault),
     // a command on pages, and why it is refused
