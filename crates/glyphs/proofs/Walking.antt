@@ -1,5 +1,5 @@
 -- Glyphs written into memory, and the walk through a text.
-use Rattle.std.proofs.Common.{◌≡◌, ℕ, suc, ◌+◌, ◌-◌, ◌<◌, ◌≤◌, min, Bool, true, false, cond, eqb, List, [], ◌∷◌, ◌++◌, length, get_or, take, drop, set, replicate, sym, refl, ap, ◌∙◌, subst, ⊎_elim, append_assoc, add-zero, arith, length-append, length-drop, length-set, take-append-drop, take-suc-set}
+use Rattle.std.proofs.Common.{◌≡◌, ℕ, suc, ◌+◌, ◌-◌, ◌<◌, ◌≤◌, min, Bool, true, false, cond, eqb, List, [], ◌∷◌, ◌++◌, length, get_or, take, drop, set, replicate, sym, refl, ap, ◌∙◌, subst, ⊎_elim, append_assoc, add-zero, arith, length-drop, length-set, take-append-drop, take-suc-set}
 use lib.Seq.{sets, length-sets, take-nil}
 use Rattle.std.proofs.lemmas.List.{length-replicate, take_all, drop_all, drop-drop, drop-set-lt, drop_more, set_past, take_rest}
 use Rattle.std.proofs.lemmas.Bool.{cases_lt}
@@ -105,15 +105,6 @@ shown_by : (tab thin : Bool) (a b d : Glyph) → replicate (cond tab 4 1) (cond 
 shown_by true thin a b d = refl
 shown_by false true a b d = refl
 shown_by false false a b d = refl
-
--- the glyphs of a first cluster, and those of the others
-pub count_step : (t : Style) (c : Cut) (cs ds : List Cut) → ds ≡ c ∷ cs → length (flat_map (shown t) ds) ≡ times_of c.bytes + length (flat_map (shown t) cs)
-count_step t c cs ds e =
-    let g = glyph_for t c.bytes c.width in
-    ap (λ l. length (flat_map (shown t) l)) e
-    ∙ length-append (shown t c) (flat_map (shown t) cs)
-    ∙ ap (λ l. length l + length (flat_map (shown t) cs)) (sym (shown_by (is_tab c.bytes) (eqb c.width 0) (space t) (replacement t) (glyph_of c.bytes c.width t)))
-    ∙ ap (λ n. n + length (flat_map (shown t) cs)) (length-replicate (times_of c.bytes) g)
 
 -- a cluster's glyphs written at p, and then those of the others behind them
 pub written_step : (t : Style) (c : Cut) (cs ds : List Cut) → ds ≡ c ∷ cs →

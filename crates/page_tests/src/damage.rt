@@ -26,8 +26,8 @@ fn the_length_tells_the_whole_blocks_present(rt: HostRuntime) {
 }
 
 fn change(bytes: &mut [u8], k: usize) {
-    if k < bytes.len() {
-        bytes[k] ^= 1;
+    if let Some(b) = bytes.get_mut(k) {
+        *b ^= 1;
     }
 }
 
@@ -66,14 +66,15 @@ fn blocks_are_looked_at_in_their_order(rt: HostRuntime) {
 
 // What opening answers when the sides of a fresh page of n by 1 are changed to others.
 fn sides_judged(n: u64, blocks: u64, width: u64, height: u64) -> Option<u64> {
-    if width == 0 || width > 1024 || height == 0 || height > 1024 {
+    let side = 1..=1024;
+    if !side.contains(&width) || !side.contains(&height) {
         return Some(0);
     }
     let cells = width * height;
     if cells < n && cells < 31 {
         return Some(0);
     }
-    if (cells + 30) / 31 != blocks {
+    if cells.div_ceil(31) != blocks {
         return Some(blocks);
     }
     if blocks > 1 { Some(1) } else { None }
@@ -112,10 +113,7 @@ fn all_damage(rt: &impl Abort, bytes: &mut [u8], n: u8, blocks: u64) {
         let old = bytes[k];
         for v in 0..=255u8 {
             bytes[k] = v;
-            let answer = match Shelf::check_open(bytes) {
-                Ok(()) => None,
-                Err(e) => e.value(),
-            };
+            let answer = Shelf::check_open(bytes).err().and_then(|e| e.value());
             if v != old {
                 assert_eq!(rt; answer, judged(n, blocks, k, v));
             }

@@ -1,59 +1,57 @@
 // The bytes of a shelf, and what opening them answers.
 
 use super::puts::{PLAIN, told};
-use page::{Cell, Surface};
+use page::{Cell, Sides, Surface};
 use shelf::Shelf;
 use std::test::Fail;
 use style::{BOLD, Style, Symbol};
 
 // What stands at a place of a block of a fresh page, of which some cells are left.
-fn fresh_byte(left: u32, block: u32, width: u16, height: u16, at: u16) -> u8 {
+fn fresh_byte(left: usize, block: usize, sides: Sides, at: usize) -> u8 {
     match at {
         0..496 => match at % 16 {
-            0 => if u32::from(at / 16) < left { 32 } else { 0 },
-            8 => if u32::from(at / 16) < left { 1 } else { 0 },
+            0 => if at / 16 < left { 32 } else { 0 },
+            8 => if at / 16 < left { 1 } else { 0 },
             _ => 0,
         },
         496 => (block % 256) as u8,
         497 => (block / 256 % 256) as u8,
         498 => (block / 65536 % 256) as u8,
-        499 => (block / 16777216) as u8,
-        500 => (width % 256) as u8,
-        501 => (width / 256) as u8,
-        502 => (height % 256) as u8,
-        503 => (height / 256) as u8,
+        499 => (block / 16777216 % 256) as u8,
+        500 => (sides.width % 256) as u8,
+        501 => (sides.width / 256) as u8,
+        502 => (sides.height % 256) as u8,
+        503 => (sides.height / 256) as u8,
         _ => 0,
     }
 }
 
-// Whether bytes are those of a fresh page, counted through block by block.
-fn is_fresh(bytes: &[u8], width: u16, height: u16) -> bool {
-    let mut left = u32::from(width).wrapping_mul(u32::from(height));
-    let mut block = 0u32;
-    let mut at = 0u16;
-    for b in bytes {
-        if *b != fresh_byte(left, block, width, height, at) {
+fn is_fresh_block(bytes: &[u8], left: usize, block: usize, sides: Sides) -> bool {
+    bytes
+        .iter()
+        .enumerate()
+        .all(|(at, b)| *b == fresh_byte(left, block, sides, at))
+}
+
+// Whether bytes are those of a fresh page, looked at block by block.
+fn is_fresh(bytes: &[u8], sides: Sides) -> bool {
+    let mut left = sides.cells();
+    for (block, bytes) in bytes.chunks(512).enumerate() {
+        if !is_fresh_block(bytes, left, block, sides) {
             return false;
         }
-        at = at.wrapping_add(1);
-        if at == 512 {
-            at = 0;
-            left = left.saturating_sub(31);
-            block = block.wrapping_add(1);
-        }
+        left = left.saturating_sub(31);
     }
-    at == 0
+    bytes.len() % 512 == 0
 }
 
 // Makes a fresh shelf in bytes that held something else, and looks at them.
 fn made_fresh(bytes: &mut [u8], width: u16, height: u16) -> bool {
-    {
-        let shelf = Shelf::new(bytes, width, height);
-        if shelf.width() != width || shelf.height() != height {
-            return false;
-        }
+    let sides = Sides { width, height };
+    if Shelf::new(bytes, width, height).sides() != sides {
+        return false;
     }
-    is_fresh(bytes, width, height) && Shelf::check_open(bytes).is_ok()
+    is_fresh(bytes, sides) && Shelf::check_open(bytes).is_ok()
 }
 
 #[test]

@@ -1,6 +1,6 @@
 // Whether the bytes of a shelf are lawful.
 
-ghost use Rattle.std.specs.Prelude.{◌≡◌, ℕ, ◌+◌, ◌-◌, ◌*◌, ◌^◌, ◌<◌, ◌≤◌, length};
+ghost use Rattle.std.specs.Prelude.{◌≡◌, ◌+◌, ◌-◌, ◌*◌, ◌^◌, ◌<◌, ◌≤◌, length};
 ghost use Rattle.shelf.specs.Blocks.{blocks, slot_lawful, block_lawful, wide_of, high_of, unlawful, opened, no_sides};
 ghost use Rattle.std.specs.Result.{result_unwrap_or};
 

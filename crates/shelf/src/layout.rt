@@ -1,6 +1,6 @@
 // Where a cell stands in the bytes of a shelf, and how it is written there.
 
-ghost use Rattle.std.specs.Prelude.{◌≡◌, ℕ, ◌+◌, ◌*◌, ◌^◌, ◌<◌, ◌≤◌, map, length, slice_range};
+ghost use Rattle.std.specs.Prelude.{◌≡◌, ◌+◌, ◌^◌, ◌<◌, ◌≤◌, map, length, slice_range};
 ghost use Rattle.std.specs.List.{range_with_len};
 ghost use Rattle.page.specs.Cells.{fresh};
 ghost use Rattle.shelf.specs.Blocks.{shelf_byte};
@@ -95,7 +95,7 @@ fn fresh_byte(sides: Sides, k: usize) -> u8
 pub fn fill_fresh(bytes: &mut [u8], sides: Sides)
     ensures after { bytes.new ≡ map (shelf_byte sides.width sides.height (λ _. fresh)) (range_with_len 0 (length bytes.old)) }
 {
-    for k in 0..bytes.len() {
-        bytes[k] = fresh_byte(sides, k);
+    for (k, byte) in bytes.iter_mut().enumerate() {
+        *byte = fresh_byte(sides, k);
     }
 }

@@ -7,13 +7,13 @@
 
 #![tactic(auto)]
 
-ghost use Rattle.std.specs.Prelude.{◌≡◌, ℕ, ◌+◌, ◌*◌, ◌^◌, ◌<◌, ◌≤◌, length, is_some, is_ok, if◌then◌else◌};
+ghost use Rattle.std.specs.Prelude.{◌≡◌, ℕ, ◌+◌, ◌*◌, length, is_some, is_ok, if◌then◌else◌};
 ghost use Rattle.style.specs.Symbols.{symbol_of};
-ghost use Rattle.page.specs.Cells.{fresh, tidy};
+ghost use Rattle.page.specs.Cells.{fresh};
 ghost use Rattle.page.specs.Refusals.{told, memory_answer, memory_told};
 ghost use Rattle.page.specs.Rows.{fits};
 ghost use Rattle.page.specs.Surfaces.{Put};
-ghost use Rattle.shelf.specs.Bytes.{cell_from, bytes_put};
+ghost use Rattle.shelf.specs.Bytes.{bytes_put};
 ghost use Rattle.shelf.specs.Blocks.{shelf_length, shelved, wide_of, high_of, fault, open_answer, open_told};
 ghost use Rattle.shelf.specs.Shelves.{shelf_shows, shelf_held, shelf_rest, ShelfLawful};
 

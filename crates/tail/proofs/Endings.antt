@@ -12,15 +12,13 @@ use Rattle.tail.proofs.Ends.{chars_last, chars_not_last}
 
 module _ (d : ℕ) where
   all-push : (cs : List ℕ) → all (is d) (cs ++ (d ∷ [])) ≡ all (is d) cs
-  all-push [] = ap (λ b. b && true) (eq-eqb d d refl)
+  all-push [] = rw (eq-eqb d d refl) refl
   all-push (c ∷ cs) = ap (λ b. eqb c d && b) (all-push cs)
 
   at_end-push : (cs : List ℕ) → at_end (is d) (cs ++ (d ∷ [])) ≡ 1 + at_end (is d) cs
-  at_end-push [] = ap (λ b. cond (b && true) 1 0) (eq-eqb d d refl)
-  at_end-push (c ∷ cs) =
-      ap (λ b. cond (eqb c d && b) (suc (length (cs ++ (d ∷ [])))) (at_end (is d) (cs ++ (d ∷ [])))) (all-push cs)
-      ∙ (ap (cond (eqb c d && all (is d) cs) (suc (length (cs ++ (d ∷ []))))) (at_end-push cs)
-      ∙ elim (eqb c d && all (is d) cs) as (λ b. cond b (suc (length (cs ++ (d ∷ [])))) (1 + at_end (is d) cs) ≡ 1 + cond b (suc (length cs)) (at_end (is d) cs)) [ true ↦ omega (arith, length-append cs (d ∷ [])) | false ↦ refl ])
+  at_end-push [] = rw (eq-eqb d d refl) refl
+  at_end-push (c ∷ cs) = rw (all-push cs, at_end-push cs)
+      (elim (eqb c d && all (is d) cs) as (λ b. cond b (suc (length (cs ++ (d ∷ [])))) (1 + at_end (is d) cs) ≡ 1 + cond b (suc (length cs)) (at_end (is d) cs)) [ true ↦ omega (arith, length-append cs (d ∷ [])) | false ↦ refl ])
 
   all-ends : (c : ℕ) (cs : List ℕ) → ends_with d (c ∷ cs) ≡ false → all (is d) (c ∷ cs) ≡ false
   all-ends c [] e = and_left (eqb c d) true e
@@ -28,8 +26,8 @@ module _ (d : ℕ) where
 
   pub at_end-none : (cs : List ℕ) → ends_with d cs ≡ false → at_end (is d) cs ≡ 0
   at_end-none [] e = refl
-  at_end-none (c ∷ []) e = ap (λ b. cond (b && true) 1 0) e
-  at_end-none (c ∷ b ∷ cs) e = ap (λ a. cond (eqb c d && a) (length (c ∷ b ∷ cs)) (at_end (is d) (b ∷ cs))) (all-ends b cs e) ∙ (ap (λ a. cond a (length (c ∷ b ∷ cs)) (at_end (is d) (b ∷ cs))) (and_right (eqb c d) false refl) ∙ at_end-none (b ∷ cs) e)
+  at_end-none (c ∷ []) e = rw e refl
+  at_end-none (c ∷ b ∷ cs) e = rw (and_right (eqb c d) (all (is d) (b ∷ cs)) (all-ends b cs e)) (at_end-none (b ∷ cs) e)
 
   module _ (low : d < 128) where
     -- all of them are cut off

@@ -1,11 +1,11 @@
 -- A text's first and its last character, as std's `strip_prefix` and `strip_suffix` see them.
-use Rattle.std.proofs.Common.{◌≡◌, ℕ, ◌%◌, ◌<◌, Bool, true, false, eqb, List, [], ◌∷◌, ◌++◌, Some, None, IsUtf8, Option, unwrap_or, sym, refl, ap, ◌∙◌, ⊎_elim, arith, lit<, Bor, MatchOption}
+use Rattle.std.proofs.Common.{◌≡◌, ℕ, ◌%◌, ◌<◌, Bool, true, false, List, [], ◌∷◌, ◌++◌, Some, None, IsUtf8, Option, unwrap_or, sym, refl, ap, ◌∙◌, ⊎_elim, arith, lit<, Bor, MatchOption}
 use lib.Utf8.{encode, encodes, low_scalar}
 use Rattle.std.specs.Str.{chars}
-use Rattle.std.proofs.lemmas.Bool.{cond-true, cond-false, cases_Bool, eq-eqb, ne_eqb, eqb-true, and_from, and_left, and_right}
+use Rattle.std.proofs.lemmas.Bool.{cases_Bool, eq-eqb, ne_eqb, eqb-true}
 use Rattle.std.proofs.lemmas.Str.{encodes-append, encodes-chars, chars_past_char, encode_ascii}
 use Rattle.std.proofs.lemmas.List.{append-nil}
-use Rattle.tail.specs.Entries.{ends_in_pipe, without_last_pipe}
+use Rattle.tail.specs.Entries.{without_last_pipe}
 use Rattle.tail.specs.Texts.{is, at_end, starts_with, ends_with, front, without_first, without_last}
 use Rattle.tail.proofs.Spelling.{decodes_push}
 
@@ -38,8 +38,8 @@ module _ (d : ℕ) (low : d < 128) where
 
   -- `strip_prefix` with `unwrap_or`
   pub prefix_or : (t : Bor (List ℕ)) (r : Option (Bor (List ℕ))) → IsUtf8 t.now → MatchOption r ((xs : List ℕ) → t.now ≡ d ∷ xs → ⊥) (λ x. t.now ≡ d ∷ x.now) → chars (unwrap_or r t).now ≡ without_first d (chars t.now)
-  prefix_or t None u h = sym (cond-false (starts_with d (chars t.now)) _ (chars t.now) (chars_not_first t.now u h))
-  prefix_or t (Some x) u h = sym (ap (without_first d) (chars_first t.now x.now u h) ∙ cond-true (eqb d d) (chars x.now) (d ∷ chars x.now) (eq-eqb d d refl))
+  prefix_or t None u h = rw (chars_not_first t.now u h) refl
+  prefix_or t (Some x) u h = rw (chars_first t.now x.now u h, eq-eqb d d refl) refl
 
   -- an ASCII character at the end
   pub chars_last : (bs xs : List ℕ) → IsUtf8 bs → bs ≡ xs ++ (d ∷ []) → chars bs ≡ chars xs ++ (d ∷ [])
@@ -51,28 +51,16 @@ module _ (d : ℕ) (low : d < 128) where
 
 -- `strip_suffix` with `unwrap_or`
 pub suffix_or : (d : ℕ) → d < 128 → (t : Bor (List ℕ)) (r : Option (Bor (List ℕ))) → IsUtf8 t.now → MatchOption r ((f : List ℕ) → t.now ≡ f ++ (d ∷ []) → ⊥) (λ x. t.now ≡ x.now ++ (d ∷ [])) → chars (unwrap_or r t).now ≡ without_last d (chars t.now)
-suffix_or d low t None u h = sym (cond-false (ends_with d (chars t.now)) (front (chars t.now)) (chars t.now) (chars_not_last d low t.now u h))
-suffix_or d low t (Some x) u h =
-    sym (ap (without_last d) (chars_last d low t.now x.now u h) ∙ (cond-true (ends_with d (chars x.now ++ (d ∷ []))) (front (chars x.now ++ (d ∷ []))) (chars x.now ++ (d ∷ [])) (ends_with-push d (chars x.now)) ∙ front-push d (chars x.now)))
+suffix_or d low t None u h = rw (chars_not_last d low t.now u h) refl
+suffix_or d low t (Some x) u h = rw (chars_last d low t.now x.now u h, ends_with-push d (chars x.now), front-push d (chars x.now)) refl
 
 -- a pipe at the end that is decoration, one that is not, and none
 module _ (o : List ℕ) (u : IsUtf8 o) where
   pub pipe_off : (x : List ℕ) → o ≡ x ++ (124 ∷ []) → at_end (is 92) (chars x) % 2 ≡ 0 → without_last_pipe (chars o) ≡ chars x
-  pipe_off x e even =
-      let d = chars_last 124 (lit< tt) o x u e in
-      ap without_last_pipe d ∙ (cond-true (ends_in_pipe (chars x ++ (124 ∷ []))) (front (chars x ++ (124 ∷ []))) (chars x ++ (124 ∷ []))
-      (and_from (ends_with 124 (chars x ++ (124 ∷ []))) (eqb (at_end (is 92) (front (chars x ++ (124 ∷ []))) % 2) 0) (ends_with-push 124 (chars x))
-      (eq-eqb _ 0 (ap (λ l. at_end (is 92) l % 2) (front-push 124 (chars x)) ∙ even)))
-      ∙ front-push 124 (chars x))
+  pipe_off x e even = rw (chars_last 124 (lit< tt) o x u e, ends_with-push 124 (chars x), front-push 124 (chars x), even) refl
 
   pub pipe_on : (x : List ℕ) → o ≡ x ++ (124 ∷ []) → (at_end (is 92) (chars x) % 2 ≡ 0 → ⊥) → without_last_pipe (chars o) ≡ chars o
-  pipe_on x e odd =
-      let d = chars_last 124 (lit< tt) o x u e in
-      cond-false (ends_in_pipe (chars o)) (front (chars o)) (chars o)
-      (and_right (ends_with 124 (chars o)) (eqb (at_end (is 92) (front (chars o)) % 2) 0)
-      (ne_eqb _ 0 (λ q. odd (sym (ap (λ l. at_end (is 92) l % 2) (ap front d ∙ front-push 124 (chars x))) ∙ q))))
+  pipe_on x e odd = rw (chars_last 124 (lit< tt) o x u e, ends_with-push 124 (chars x), front-push 124 (chars x), ne_eqb (at_end (is 92) (chars x) % 2) 0 odd) refl
 
   pub pipe_none : ((x : List ℕ) → o ≡ x ++ (124 ∷ []) → ⊥) → without_last_pipe (chars o) ≡ chars o
-  pipe_none never =
-      cond-false (ends_in_pipe (chars o)) (front (chars o)) (chars o)
-      (and_left (ends_with 124 (chars o)) (eqb (at_end (is 92) (front (chars o)) % 2) 0) (chars_not_last 124 (lit< tt) o u never))
+  pipe_none never = rw (chars_not_last 124 (lit< tt) o u never) refl

@@ -82,11 +82,7 @@ encodes_end false = refl
 pub bytes_appended : (bs : List ℕ) (b : Bool) (n : ℕ) → IsUtf8 bs → b ≡ ends_with 10 (chars bs) → bs ++ (cond (not b) (10 ∷ []) [] ++ delimiter_row n) ≡ encodes (appended n (chars bs))
 bytes_appended bs b n u e =
     let cs = chars bs in
-    sym (encodes-append cs (line_end cs ++ delimiter_row n) ∙ (ap (λ x. encodes cs ++ x) (encodes-append (line_end cs) (delimiter_row n))
-    ∙ (ap (λ x. x ++ (encodes (line_end cs) ++ encodes (delimiter_row n))) (encodes-chars bs u)
-    ∙ (ap (λ x. bs ++ (x ++ encodes (delimiter_row n))) (encodes_end (ends_with 10 cs) ∙ ap (λ x. cond (not x) (10 ∷ []) []) (sym e))
-    ∙ ap (λ x. bs ++ (cond (not b) (10 ∷ []) [] ++ x)) (encodes_row n)))))
+    rw (encodes-append cs (line_end cs ++ delimiter_row n), encodes-append (line_end cs) (delimiter_row n), encodes-chars bs u, encodes_end (ends_with 10 cs), encodes_row n, e) refl
 
 pub bytes_replaced : (bs kept : List ℕ) (n : ℕ) → kept ≡ encodes (without_last_line (chars bs)) → kept ++ delimiter_row n ≡ encodes (replaced n (chars bs))
-bytes_replaced bs kept n e =
-    sym (encodes-append (without_last_line (chars bs)) (delimiter_row n) ∙ (ap (λ x. x ++ encodes (delimiter_row n)) (sym e) ∙ ap (λ x. kept ++ x) (encodes_row n)))
+bytes_replaced bs kept n e = rw (encodes-append (without_last_line (chars bs)) (delimiter_row n), encodes_row n, e) refl

@@ -1,9 +1,10 @@
 -- Delimiter rows: an entry with a backslash is none of hyphens.
-use Rattle.std.proofs.Common.{◌≡◌, ℕ, ◌<◌, Bool, true, false, cond, not, ◌&&◌, ◌||◌, eqb, List, [], ◌∷◌, ◌++◌, length, sym, refl, ap, ◌∙◌, ⊎_elim, true≢false, append_assoc, arith}
+use Rattle.std.proofs.Common.{◌≡◌, ℕ, ◌<◌, Bool, true, false, not, ◌&&◌, ◌||◌, eqb, List, [], ◌∷◌, ◌++◌, length, sym, refl, ap, ◌∙◌, ⊎_elim, true≢false, append_assoc, arith}
 use Rattle.std.specs.Char.{is_whitespace}
-use Rattle.std.proofs.lemmas.Bool.{cond-true, cond-false, cond_both, eq-eqb, ne_eqb, eqb-true, and_left, and_right, and_parts, or_from, or_left, or_right, cases_Bool}
+use Rattle.std.proofs.lemmas.Bool.{cond_both, eq-eqb, ne_eqb, eqb-true, and_left, and_right, and_parts, or_from, cases_Bool}
 use Rattle.tail.specs.Texts.{all, any, is, before, past, trimmed, ends_with, front, without_first, without_last}
 use Rattle.tail.specs.Lines.{onto, parts}
+use Rattle.tail.proofs.Spelling.{any_some}
 use Rattle.tail.proofs.Pieces.{length-onto, pieces_bounds}
 use Rattle.tail.specs.Entries.{delimits, all_delimit, pieces}
 
@@ -20,28 +21,22 @@ white_none (c ∷ cs) e = or_from (eqb c 92) (has cs) (white_not c (and_parts (i
 
 has-past : (cs : List ℕ) → has (past is_whitespace cs) ≡ has cs
 has-past [] = refl
-has-past (c ∷ cs) = ⊎_elim
-    (λ (w : is_whitespace c ≡ true). ap has (cond-true (is_whitespace c) (past is_whitespace cs) (c ∷ cs) w) ∙ (has-past cs ∙ sym (ap (λ b. b || has cs) (white_not c w))))
-    (λ (w : is_whitespace c ≡ false). ap has (cond-false (is_whitespace c) (past is_whitespace cs) (c ∷ cs) w))
-    (cases_Bool (is_whitespace c))
+has-past (c ∷ cs) = ⊎_elim (λ (w : is_whitespace c ≡ true). rw (w, white_not c w) (has-past cs)) (λ (w : is_whitespace c ≡ false). rw w refl) (cases_Bool (is_whitespace c))
 
 has-before : (cs : List ℕ) → has (before is_whitespace cs) ≡ has cs
 has-before [] = refl
 has-before (c ∷ cs) = ⊎_elim
-    (λ (w : (is_whitespace c && all is_whitespace cs) ≡ true). ap has (cond-true (is_whitespace c && all is_whitespace cs) [] (c ∷ before is_whitespace cs) w) ∙ sym (white_none (c ∷ cs) w))
-    (λ (w : (is_whitespace c && all is_whitespace cs) ≡ false). ap has (cond-false (is_whitespace c && all is_whitespace cs) [] (c ∷ before is_whitespace cs) w) ∙ ap (λ b. eqb c 92 || b) (has-before cs))
+    (λ (w : (is_whitespace c && all is_whitespace cs) ≡ true). rw w (sym (white_none (c ∷ cs) w)))
+    (λ (w : (is_whitespace c && all is_whitespace cs) ≡ false). rw w (ap (λ b. eqb c 92 || b) (has-before cs)))
     (cases_Bool (is_whitespace c && all is_whitespace cs))
 
 has-first : (cs : List ℕ) → has (without_first 58 cs) ≡ has cs
 has-first [] = refl
-has-first (c ∷ cs) = ⊎_elim
-    (λ (e : eqb c 58 ≡ true). ap has (cond-true (eqb c 58) cs (c ∷ cs) e) ∙ sym (ap (λ x. eqb x 92 || has cs) (eqb-true c 58 e)))
-    (λ (e : eqb c 58 ≡ false). ap has (cond-false (eqb c 58) cs (c ∷ cs) e))
-    (cases_Bool (eqb c 58))
+has-first (c ∷ cs) = ⊎_elim (λ (e : eqb c 58 ≡ true). rw (eqb-true c 58 e) refl) (λ (e : eqb c 58 ≡ false). rw e refl) (cases_Bool (eqb c 58))
 
 has-front : (cs : List ℕ) → ends_with 58 cs ≡ true → has (front cs) ≡ has cs
 has-front [] e = refl
-has-front (c ∷ []) e = sym (ap (λ x. eqb x 92 || false) (eqb-true c 58 e))
+has-front (c ∷ []) e = rw (eqb-true c 58 e) refl
 has-front (c ∷ b ∷ cs) e = ap (λ t. eqb c 92 || t) (has-front (b ∷ cs) e)
 
 has-last : (cs : List ℕ) → has (without_last 58 cs) ≡ has cs
@@ -50,8 +45,8 @@ has-last cs = cond_both (ends_with 58 cs) (front cs) cs (λ l. has l ≡ has cs)
 has-hyphens : (cs : List ℕ) → has cs ≡ true → all (is 45) cs ≡ false
 has-hyphens [] e = sym e
 has-hyphens (c ∷ cs) e = ⊎_elim
-    (λ (h : eqb c 45 ≡ true). and_right (eqb c 45) (all (is 45) cs) (has-hyphens cs (sym (ap (λ x. eqb x 92 || has cs) (eqb-true c 45 h)) ∙ e)))
-    (λ (h : eqb c 45 ≡ false). and_left (eqb c 45) (all (is 45) cs) h)
+    (λ (h : eqb c 45 ≡ true). rw h (has-hyphens cs (rw (eqb-true c 45 h) at e)))
+    (λ (h : eqb c 45 ≡ false). rw h refl)
     (cases_Bool (eqb c 45))
 
 no_entry : (e : List ℕ) → has e ≡ true → delimits e ≡ false
@@ -64,13 +59,9 @@ abbrev behind : List ℕ → List (List ℕ) → List (List ℕ)
 behind xs [] = []
 behind xs (e ∷ es) = (xs ++ e) ∷ es
 
-has_behind : (xs e : List ℕ) (c : ℕ) → c ≡ 92 → has (xs ++ (c ∷ e)) ≡ true
-has_behind [] e c q = or_left (eqb c 92) (has e) (eq-eqb c 92 q)
-has_behind (x ∷ xs) e c q = or_right (eqb x 92) (has (xs ++ (c ∷ e))) (has_behind xs e c q)
-
 spoilt : (xs : List ℕ) (c : ℕ) (ls : List (List ℕ)) → c ≡ 92 → 0 < length ls → all_delimit (behind xs (onto c ls)) ≡ false
 spoilt xs c [] q h = absurd (omega arith)
-spoilt xs c (e ∷ es) q h = and_left (delimits (xs ++ (c ∷ e))) (all_delimit es) (no_entry (xs ++ (c ∷ e)) (has_behind xs e c q))
+spoilt xs c (e ∷ es) q h = and_left (delimits (xs ++ (c ∷ e))) (all_delimit es) (no_entry (xs ++ (c ∷ e)) (any_some (is 92) xs e c (eq-eqb c 92 q)))
 
 behind-onto : (xs : List ℕ) (c : ℕ) (ls : List (List ℕ)) → behind xs (onto c ls) ≡ behind (xs ++ (c ∷ [])) ls
 behind-onto xs c [] = refl
@@ -87,17 +78,12 @@ behind_nothing (e ∷ es) = refl
 plain_pipes : (xs cs : List ℕ) → all_delimit (behind xs (pieces false cs)) ≡ all_delimit (behind xs (parts 124 cs))
 plain_pipes xs [] = refl
 plain_pipes xs (c ∷ cs) = ⊎_elim
-    (λ (e : eqb c 124 ≡ true).
-    ap (λ b. all_delimit (behind xs (cond b ([] ∷ pieces false cs) (onto c (pieces (eqb c 92) cs))))) e
-    ∙ (ap (λ b. delimits (xs ++ []) && b) (sym (ap all_delimit (behind_nothing (pieces false cs))) ∙ (plain_pipes [] cs ∙ ap all_delimit (behind_nothing (parts 124 cs)))) ∙ sym (ap (λ b. all_delimit (behind xs (cond b ([] ∷ parts 124 cs) (onto c (parts 124 cs))))) e)))
-    (λ (e : eqb c 124 ≡ false).
-    ap (λ b. all_delimit (behind xs (cond b ([] ∷ pieces false cs) (onto c (pieces (eqb c 92) cs))))) e
-    ∙ (⊎_elim
+    (λ (e : eqb c 124 ≡ true). rw e (ap (λ b. delimits (xs ++ []) && b) (simp behind_nothing at (plain_pipes [] cs))))
+    (λ (e : eqb c 124 ≡ false). rw e (⊎_elim
     (λ (q : eqb c 92 ≡ true). spoilt xs c (pieces (eqb c 92) cs) (eqb-true c 92 q) (pieces_bounds (eqb c 92) cs).0 ∙ sym (spoilt xs c (parts 124 cs) (eqb-true c 92 q) (length-parts cs)))
-    (λ (q : eqb c 92 ≡ false). ap (λ b. all_delimit (behind xs (onto c (pieces b cs)))) q ∙ (ap all_delimit (behind-onto xs c (pieces false cs)) ∙ (plain_pipes (xs ++ (c ∷ [])) cs ∙ sym (ap all_delimit (behind-onto xs c (parts 124 cs))))))
-    (cases_Bool (eqb c 92))
-    ∙ sym (ap (λ b. all_delimit (behind xs (cond b ([] ∷ parts 124 cs) (onto c (parts 124 cs))))) e)))
+    (λ (q : eqb c 92 ≡ false). rw (q, behind-onto xs c (pieces false cs), behind-onto xs c (parts 124 cs)) (plain_pipes (xs ++ (c ∷ [])) cs))
+    (cases_Bool (eqb c 92))))
     (cases_Bool (eqb c 124))
 
 pub all_plain : (cs : List ℕ) → all_delimit (parts 124 cs) ≡ all_delimit (pieces false cs)
-all_plain cs = sym (ap all_delimit (behind_nothing (parts 124 cs))) ∙ (sym (plain_pipes [] cs) ∙ ap all_delimit (behind_nothing (pieces false cs)))
+all_plain cs = sym (simp behind_nothing at (plain_pipes [] cs))

@@ -81,9 +81,9 @@ any_none : (p : ℕ → Bool) (cs : List ℕ) → NonePass p cs → any p cs ≡
 any_none p [] f = refl
 any_none p (c ∷ cs) f = or_from (p c) (any p cs) f.0 (any_none p cs f.1)
 
-any_some : (p : ℕ → Bool) (xs ys : List ℕ) (c : ℕ) → p c ≡ true → any p ((xs ++ (c ∷ [])) ++ ys) ≡ true
+pub any_some : (p : ℕ → Bool) (xs ys : List ℕ) (c : ℕ) → p c ≡ true → any p (xs ++ (c ∷ ys)) ≡ true
 any_some p [] ys c t = or_left (p c) (any p ys) t
-any_some p (x ∷ xs) ys c t = or_right (p x) (any p ((xs ++ (c ∷ [])) ++ ys)) (any_some p xs ys c t)
+any_some p (x ∷ xs) ys c t = or_right (p x) (any p (xs ++ (c ∷ ys))) (any_some p xs ys c t)
 
 -- the clause of `contains` at a character
 pub contains_chars : (d : ℕ) (bs : List ℕ) (r : Bool) → IsUtf8 bs → MatchBool r ((i : ℕ) × (j : ℕ) × FindsChar d bs (Some (i, j)) × (i ≤ j) × (j ≤ length bs)) (FindsChar d bs None) → r ≡ any (is d) (chars bs)
@@ -96,7 +96,7 @@ contains_chars d bs true u h =
     let v = IsUtf8-drop bs j u (subst (IsCharBoundary bs) (sym a.ends) a.after) in
     let cut : bs ≡ (take i bs ++ encode d) ++ drop j bs = sym (take-append-drop i bs) ∙ (ap (λ l. take i bs ++ l) a.split ∙ sym (append_assoc (take i bs) (encode d) (drop j bs))) in
     let front : encodes (w.0 ++ (d ∷ [])) ≡ take i bs ++ encode d = encodes-append w.0 (d ∷ []) ∙ (ap (λ l. l ++ (encode d ++ [])) w.1 ∙ ap (λ l. take i bs ++ l) (append-nil (encode d))) in
-    sym (ap (any (is d)) (decodes_cut bs (take i bs ++ encode d) (drop j bs) (w.0 ++ (d ∷ [])) u v cut front) ∙ any_some (is d) w.0 (chars (drop j bs)) d (eq-eqb d d refl))
+    sym (ap (any (is d)) (decodes_cut bs (take i bs ++ encode d) (drop j bs) (w.0 ++ (d ∷ [])) u v cut front ∙ append_assoc w.0 (d ∷ []) (chars (drop j bs))) ∙ any_some (is d) w.0 (chars (drop j bs)) d (eq-eqb d d refl))
 
 -- what follows an ASCII character is text
 pub utf8_tail : (d : ℕ) (s t : List ℕ) → d < 128 → IsUtf8 s → s ≡ d ∷ t → IsUtf8 t

@@ -7,7 +7,7 @@ use Rattle.std.proofs.lemmas.Iterator.{YieldsList}
 use Rattle.std.proofs.lemmas.Iterator.Splits.{YieldsList-from_shown_while}
 use Rattle.std.specs.Str.{NonePass, IsCharBoundary, chars}
 use Rattle.std.proofs.lemmas.List.{take-append-drop, length-drop}
-use Rattle.std.proofs.lemmas.Bool.{cond-true, cond-false, eq-eqb}
+use Rattle.std.proofs.lemmas.Bool.{eq-eqb}
 use Rattle.std.proofs.lemmas.Str.{chars_from_encodes, IsUtf8-take, IsUtf8-drop, IsCharBoundary-before_ascii, encode_ascii, len_utf8_bounds}
 use Rattle.tail.specs.Lines.{parts, onto}
 use Rattle.tail.specs.Fences.{belongs, all_belong, fence_below, run_at_end}
@@ -22,11 +22,11 @@ module _ (d : ℕ) (low : d < 128) where
   -- a text without d is one part, and one before a d is the first
   parts_one : (cs : List ℕ) → NonePass (λ c. eqb c d) cs → parts d cs ≡ cs ∷ []
   parts_one [] f = refl
-  parts_one (c ∷ cs) f = cond-false (eqb c d) ([] ∷ parts d cs) (onto c (parts d cs)) f.0 ∙ ap (onto c) (parts_one cs f.1)
+  parts_one (c ∷ cs) f = rw f.0 (ap (onto c) (parts_one cs f.1))
 
   parts_more : (cs ds : List ℕ) → NonePass (λ c. eqb c d) cs → parts d (cs ++ (d ∷ ds)) ≡ cs ∷ parts d ds
-  parts_more [] ds f = cond-true (eqb d d) ([] ∷ parts d ds) (onto d (parts d ds)) (eq-eqb d d refl)
-  parts_more (c ∷ cs) ds f = cond-false (eqb c d) ([] ∷ parts d (cs ++ (d ∷ ds))) (onto c (parts d (cs ++ (d ∷ ds)))) f.0 ∙ ap (onto c) (parts_more cs ds f.1)
+  parts_more [] ds f = rw (eq-eqb d d refl) refl
+  parts_more (c ∷ cs) ds f = rw f.0 (ap (onto c) (parts_more cs ds f.1))
 
   module _ (w x rest : List ℕ) (u : IsUtf8 w) where
     last_part : FindsChar d w None → x ≡ w → parts d (chars w) ≡ chars x ∷ []

@@ -1,7 +1,7 @@
 -- How much of a source is UTF-8.
 use Rattle.std.proofs.Common.{◌≡◌, ℕ, zero, suc, ◌<◌, ◌≤◌, true, false, List, take, IsUtf8, sym, ◌∙◌, subst, ⊎_elim, true≢false, arith}
 use Rattle.std.specs.Str.{IsValidUpTo, is_utf8}
-use Rattle.std.proofs.lemmas.Bool.{cond-true, cond-false, cases_Bool, cases_lt}
+use Rattle.std.proofs.lemmas.Bool.{cases_Bool, cases_lt}
 use Rattle.std.proofs.lemmas.Str.{IsUtf8-from_is_utf8, is_utf8-from_IsUtf8}
 use Rattle.tail.specs.Cook.{valid_up_to}
 
@@ -14,8 +14,8 @@ valid_from bs n v zero h = omega arith
 valid_from bs n v (suc k) h = ⊎_elim
     (λ (t : is_utf8 (take (suc k) bs) ≡ true).
     let e : n ≡ suc k = ⊎_elim (λ (g : n < suc k). absurd (v.longest (suc k) g (IsUtf8-from_is_utf8 (take (suc k) bs) t))) (λ (l : suc k ≤ n). let z : n ≡ suc k = omega arith in z) (cases_lt n (suc k)) in
-    e ∙ sym (cond-true (is_utf8 (take (suc k) bs)) (suc k) (valid_up_to k bs) t))
+    rw t e)
     (λ (f : is_utf8 (take (suc k) bs) ≡ false).
     let l : n ≤ k = ⊎_elim (λ (g : n < suc k). let z : n ≤ k = omega arith in z) (λ (g : suc k ≤ n). let e : n ≡ suc k = omega arith in absurd (true≢false (sym (is_utf8-from_IsUtf8 (take (suc k) bs) (subst (λ m. IsUtf8 (take m bs)) e v.front)) ∙ f))) (cases_lt n (suc k)) in
-    valid_from bs n v k l ∙ sym (cond-false (is_utf8 (take (suc k) bs)) (suc k) (valid_up_to k bs) f))
+    rw f (valid_from bs n v k l))
     (cases_Bool (is_utf8 (take (suc k) bs)))

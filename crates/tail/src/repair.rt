@@ -74,9 +74,8 @@ pub fn repair(text: &str) -> Option<Patch<'_>>
     ensures { option_map patched result ≡ repaired_bytes text.now }
 {
     match run_at_end(without_last(text, '\n')) {
-        Run::Empty => None,
         Run::Header(header) => after_header(text, header),
         Run::Pair(header, line) => after_two(text, header, line),
-        Run::Longer => None,
+        Run::Empty | Run::Longer => None,
     }
 }

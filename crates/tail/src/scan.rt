@@ -25,8 +25,7 @@ impl<'a> Run<'a> {
         match self {
             Run::Empty => Run::Header(line),
             Run::Header(header) => Run::Pair(header, line),
-            Run::Pair(_, _) => Run::Longer,
-            Run::Longer => Run::Longer,
+            Run::Pair(_, _) | Run::Longer => Run::Longer,
         }
     }
 }

@@ -1,6 +1,8 @@
-use Rattle.std.proofs.Common.{◌≡◌, ℕ, zero, suc, ◌+◌, ◌-◌, ◌<◌, ◌≤◌, true, false, not, ◌&&◌, leb, ◌⊎◌, List, [], ◌∷◌, length, get_or, drop, Some, None, Option, sym, refl, ap, ◌∙◌, inl, inr, ⊎_elim, arith, length-drop, get_or-drop}
+use Rattle.std.proofs.Common.{◌≡◌, ℕ, zero, suc, ◌+◌, ◌-◌, ◌<◌, ◌≤◌, true, false, ◌&&◌, ◌⊎◌, List, [], ◌∷◌, length, get_or, drop, Some, None, Option, sym, refl, ap, ◌∙◌, inl, inr, ⊎_elim, arith, length-drop, get_or-drop}
+use Rattle.std.proofs.lemmas.Bool.Decides.{nat_tests}
+use Rattle.std.proofs.lemmas.Grind.{common_steps}
 use Rattle.std.specs.List.{prefix_len}
-use Rattle.std.proofs.lemmas.Bool.{cases_lt, cases_eq, cases_order, cases_Bool, cond-true, cond-false, both_ways, le-leb, and_from, and_parts, and_cases, or_left, or_right, or_cases, not_from_false, not-true, leb-true}
+use Rattle.std.proofs.lemmas.Bool.{cases_eq, cases_order, cases_Bool, cond-true, cond-false, both_ways, and_parts, and_cases}
 use Rattle.std.proofs.lemmas.List.Sums.{prefix_len-le-length}
 use Rattle.glyphs.specs.declared.Glyph.{Glyph}
 use Rattle.glyphs.specs.Glyphs.{is_space}
@@ -10,22 +12,12 @@ use Rattle.wrap_laws.specs.Rules.{past_spaces, worded, last_break, IsLastBreak, 
 -- The longest front that passes: each of its elements passes, and the one behind it does not.
 leading_passes : (gs : List Glyph) (j : ℕ) → j < prefix_len is_space gs → is_space (get_or gs j no_glyph) ≡ true
 leading_passes [] j h = absurd (omega arith)
-leading_passes (g ∷ gs) zero h =
-    ⊎_elim (λ y. y) (λ n. absurd (omega (arith, cond-false (is_space g) (1 + prefix_len is_space gs) 0 n))) (cases_Bool (is_space g))
-leading_passes (g ∷ gs) (suc j) h =
-    ⊎_elim
-    (λ y. let e = cond-true (is_space g) (1 + prefix_len is_space gs) 0 y in leading_passes gs j (omega arith))
-    (λ n. absurd (omega (arith, cond-false (is_space g) (1 + prefix_len is_space gs) 0 n)))
-    (cases_Bool (is_space g))
+leading_passes (g ∷ gs) zero h = grind (arith, nat_tests)
+leading_passes (g ∷ gs) (suc j) h = let rest : j < prefix_len is_space gs → is_space (get_or gs j no_glyph) ≡ true = leading_passes gs j in grind (arith, nat_tests)
 
 leading_stops : (gs : List Glyph) → prefix_len is_space gs < length gs → is_space (get_or gs (prefix_len is_space gs) no_glyph) ≡ false
 leading_stops [] h = absurd (omega arith)
-leading_stops (g ∷ gs) h =
-    ⊎_elim
-    (λ y. let e : prefix_len is_space (g ∷ gs) ≡ suc (prefix_len is_space gs) = omega (arith, cond-true (is_space g) (1 + prefix_len is_space gs) 0 y) in
-    rw e (leading_stops gs (omega arith)))
-    (λ n. let e : prefix_len is_space (g ∷ gs) ≡ 0 = cond-false (is_space g) (1 + prefix_len is_space gs) 0 n in rw e n)
-    (cases_Bool (is_space g))
+leading_stops (g ∷ gs) h = let rest = leading_stops gs in grind (arith, common_steps)
 
 shifted : (line : List Glyph) (k m : ℕ) → k ≤ m → is_space (get_or (drop k line) (m - k) no_glyph) ≡ space_at line m
 shifted line k m h = let e : k + (m - k) ≡ m = omega arith in ap is_space (get_or-drop k line (m - k) no_glyph ∙ ap (λ n. get_or line n no_glyph) e)
@@ -44,25 +36,15 @@ past_within line k h = omega (arith, prefix_len-le-length is_space (drop k line)
 
 -- Past a space lies further on.
 pub past_further_on : (line : List Glyph) (k : ℕ) → k < length line → space_at line k ≡ true → k < past_spaces line k
-past_further_on line k h y =
-    ⊎_elim (λ l. l) (λ l. let e : past_spaces line k ≡ k = omega arith in absurd (both_ways (space_at line k) (sym (ap (space_at line) e) ∙ past_stops line k (omega arith)) y)) (cases_lt k (past_spaces line k))
+past_further_on line k h y = let z = past_stops line k in grind (arith, nat_tests)
 
 pub worded_from : (line : List Glyph) (s m k : ℕ) → s ≤ m → m < k → space_at line m ≡ false → worded line s k ≡ true
 worded_from line s m zero h l n = absurd (omega arith)
-worded_from line s m (suc k) h l n =
-    ⊎_elim
-    (λ e. or_left (leb s k && not (space_at line k)) (worded line s k)
-    (and_from (leb s k) (not (space_at line k)) (le-leb s k (omega arith)) (not_from_false (space_at line k) (ap (space_at line) (sym e) ∙ n))))
-    (λ e. or_right (leb s k && not (space_at line k)) (worded line s k) (worded_from line s m k h (omega arith) n))
-    (cases_eq m k)
+worded_from line s m (suc k) h l n = let rest : m < k → worded line s k ≡ true = λ l. worded_from line s m k h l n in grind (arith, nat_tests)
 
 pub worded-at : (line : List Glyph) (s k : ℕ) → worded line s k ≡ true → (m : ℕ) × (s ≤ m) × (m < k) × (space_at line m ≡ false)
-worded-at line s zero y = absurd (both_ways false refl y)
-worded-at line s (suc k) y =
-    ⊎_elim
-    (λ a. let p = and_parts (leb s k) (not (space_at line k)) a in (k, leb-true s k p.0, omega arith, not-true (space_at line k) p.1))
-    (λ a. let p = worded-at line s k a in (p.0, p.1, omega arith, p.3))
-    (or_cases (leb s k && not (space_at line k)) (worded line s k) y)
+worded-at line s zero y = absurd (let z : false ≡ true = y in cc)
+worded-at line s (suc k) y = let rest = worded-at line s k in grind (arith, nat_tests)
 
 -- A row that starts no later, and a place no earlier, keep the non-space.
 pub worded_wider : (line : List Glyph) (s t j k : ℕ) → s ≤ t → j ≤ k → (m : ℕ) × (t ≤ m) × (m < j) × (space_at line m ≡ false) → worded line s k ≡ true
@@ -71,15 +53,7 @@ worded_wider line s t j k h l p = worded_from line s p.0 k (omega arith) (omega 
 -- With no break place, no space before i has a non-space before it.
 pub none_breaks : (line : List Glyph) (s i k : ℕ) → last_break line s i ≡ None → k < i → space_at line k ≡ true → worded line s k ≡ false
 none_breaks line s zero k e h y = absurd (omega arith)
-none_breaks line s (suc i) k e h y =
-    ⊎_elim
-    (λ t. let c = cond-true (space_at line i && worded line s i) (Some i) (last_break line s i) t in let z : ◌≡◌ {A = ℕ} 0 1 = cc in absurd (omega arith))
-    (λ f. let c = cond-false (space_at line i && worded line s i) (Some i) (last_break line s i) f in
-    ⊎_elim
-    (λ is. ⊎_elim (λ n. absurd (both_ways (space_at line i) n (ap (space_at line) (sym is) ∙ y))) (λ n. ap (worded line s) is ∙ n) (and_cases (space_at line i) (worded line s i) f))
-    (λ isnt. none_breaks line s i k (sym c ∙ e) (omega arith) y)
-    (cases_eq k i))
-    (cases_Bool (space_at line i && worded line s i))
+none_breaks line s (suc i) k e h y = let rest : last_break line s i ≡ None → k < i → worded line s k ≡ false = λ e h. none_breaks line s i k e h y in grind (arith, nat_tests)
 
 pub some_breaks : (line : List Glyph) (s i k : ℕ) → last_break line s i ≡ Some k → IsLastBreak line s i k
 some_breaks line s zero k e = let z : ◌≡◌ {A = ℕ} 0 1 = cc in absurd (omega arith)

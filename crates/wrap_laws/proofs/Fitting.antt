@@ -1,5 +1,6 @@
-use Rattle.std.proofs.Common.{◌≡◌, ℕ, zero, suc, ◌+◌, ◌-◌, ◌<◌, ◌≤◌, leb, List, [], ◌∷◌, length, get_or, take, drop, ap, ◌∙◌, ⊎_elim, arith, length-drop, drop-cons, drop-drop}
-use Rattle.std.proofs.lemmas.Bool.{cases_lt, cond-true, cond-false, le-leb, lt-leb}
+use Rattle.std.proofs.Common.{◌≡◌, ℕ, zero, suc, ◌+◌, ◌-◌, ◌<◌, ◌≤◌, leb, List, [], ◌∷◌, length, get_or, take, drop, ap, ◌∙◌, arith, length-drop, drop-cons, drop-drop}
+use Rattle.std.proofs.lemmas.Bool.Decides.{nat_tests}
+use Rattle.std.proofs.lemmas.Bool.{cond-true, le-leb}
 use Rattle.glyphs.specs.declared.Glyph.{Glyph}
 use Rattle.wrap_laws.specs.Breaks.{no_glyph, counted, columns}
 use Rattle.wrap_laws.specs.Rules.{fitting, first_misfit}
@@ -7,84 +8,38 @@ use Rattle.wrap_laws.specs.Rules.{fitting, first_misfit}
 fits-one_more : (w room : ℕ) (g : Glyph) (gs : List Glyph) → counted w g ≤ room → fitting w room (g ∷ gs) ≡ suc (fitting w (room - counted w g) gs)
 fits-one_more w room g gs h = cond-true (leb (counted w g) room) _ _ (le-leb (counted w g) room h)
 
-fits-none : (w room : ℕ) (g : Glyph) (gs : List Glyph) → room < counted w g → fitting w room (g ∷ gs) ≡ 0
-fits-none w room g gs h = cond-false (leb (counted w g) room) _ _ (lt-leb (counted w g) room h)
-
 -- No more glyphs fit than there are.
 fitting_le_length : (w room : ℕ) (gs : List Glyph) → fitting w room gs ≤ length gs
 fitting_le_length w room [] = omega arith
-fitting_le_length w room (g ∷ gs) =
-    ⊎_elim
-    (λ l. omega (arith, fits-none w room g gs l))
-    (λ l. omega (arith, fits-one_more w room g gs l, fitting_le_length w (room - counted w g) gs))
-    (cases_lt room (counted w g))
+fitting_le_length w room (g ∷ gs) = let rest = fitting_le_length w (room - counted w g) gs in grind (arith, nat_tests)
 
 -- What fits does not exceed the room.
 fitting-columns : (w room : ℕ) (gs : List Glyph) → columns w (take (fitting w room gs) gs) ≤ room
 fitting-columns w room [] = omega arith
-fitting-columns w room (g ∷ gs) =
-    ⊎_elim
-    (λ l. rw (fits-none w room g gs l) (omega arith))
-    (λ l. rw (fits-one_more w room g gs l) (omega (arith, fitting-columns w (room - counted w g) gs)))
-    (cases_lt room (counted w g))
+fitting-columns w room (g ∷ gs) = let rest = fitting-columns w (room - counted w g) gs in grind (arith, nat_tests)
 
 more_room : (w r t : ℕ) (gs : List Glyph) → r ≤ t → fitting w r gs ≤ fitting w t gs
 more_room w r t [] h = omega arith
-more_room w r t (g ∷ gs) h =
-    ⊎_elim
-    (λ l. omega (arith, fits-none w r g gs l))
-    (λ l. let k : counted w g ≤ t = omega arith in
-    let m : r - counted w g ≤ t - counted w g = omega arith in
-    omega (arith, fits-one_more w r g gs l, fits-one_more w t g gs k, more_room w (r - counted w g) (t - counted w g) gs m))
-    (cases_lt r (counted w g))
+more_room w r t (g ∷ gs) h = let rest = more_room w (r - counted w g) (t - counted w g) gs (omega arith) in grind (arith, nat_tests)
 
 -- A row that starts later, with no less room, reaches no less far.
 later_start : (w r t : ℕ) (gs : List Glyph) (d : ℕ) → r ≤ t → fitting w r gs ≤ d + fitting w t (drop d gs)
 later_start w r t gs zero h = omega (arith, more_room w r t gs h)
 later_start w r t [] (suc d) h = omega arith
-later_start w r t (g ∷ gs) (suc d) h =
-    ⊎_elim
-    (λ l. omega (arith, fits-none w r g gs l))
-    (λ l. let m : r - counted w g ≤ t = omega arith in
-    omega (arith, fits-one_more w r g gs l, later_start w (r - counted w g) t gs d m))
-    (cases_lt r (counted w g))
+later_start w r t (g ∷ gs) (suc d) h = let rest = later_start w (r - counted w g) t gs d (omega arith) in grind (arith, nat_tests)
 
 -- A full row takes only glyphs of width 0, whatever its width from 1 up.
 full_row : (w : ℕ) (gs : List Glyph) → 1 ≤ w → fitting w 0 gs ≤ fitting (w + 1) 0 gs
 full_row w [] h = omega arith
-full_row w (g ∷ gs) h =
-    ⊎_elim
-    (λ l. omega (arith, fits-none w 0 g gs l))
-    (λ l. let k : counted (w + 1) g ≤ 0 = omega arith in
-    let a : 0 - counted w g ≡ 0 = omega arith in
-    let b : 0 - counted (w + 1) g ≡ 0 = omega arith in
-    omega (
-      arith,
-      fits-one_more w 0 g gs l,
-      fits-one_more (w + 1) 0 g gs k,
-      full_row w gs h,
-      ap (λ r. fitting w r gs) a,
-      ap (λ r. fitting (w + 1) r gs) b,
-    ))
-    (cases_lt 0 (counted w g))
+full_row w (g ∷ gs) h = let rest = full_row w gs h in grind (arith, nat_tests)
 
 -- One more column, one more of room: no fewer glyphs fit, though a glyph wider than w counts one more too.
 one_more_column : (w r : ℕ) (gs : List Glyph) → 1 ≤ w → r ≤ w → fitting w r gs ≤ fitting (w + 1) (r + 1) gs
 one_more_column w r [] h q = omega arith
 one_more_column w r (g ∷ gs) h q =
-    ⊎_elim
-    (λ l. omega (arith, fits-none w r g gs l))
-    (λ l. let k : counted (w + 1) g ≤ r + 1 = omega arith in
-    let yes = fits-one_more w r g gs l in
-    let yes1 = fits-one_more (w + 1) (r + 1) g gs k in
-    ⊎_elim
-    (λ wide. let a : r - counted w g ≡ 0 = omega arith in
-    let b : r + 1 - counted (w + 1) g ≡ 0 = omega arith in
-    omega (arith, full_row w gs h, ap (λ x. fitting w x gs) a, ap (λ x. fitting (w + 1) x gs) b))
-    (λ slim. let b : r + 1 - counted (w + 1) g ≡ r - counted w g + 1 = omega arith in
-    omega (arith, one_more_column w (r - counted w g) gs h (omega arith), ap (λ x. fitting (w + 1) x gs) b))
-    (cases_lt w g.width))
-    (cases_lt r (counted w g))
+    let full = full_row w gs h in
+    let rest = one_more_column w (r - counted w g) gs h (omega arith) in
+    grind (arith, nat_tests)
 
 -- The first misfit of a row that starts no earlier and has one more column is no earlier.
 pub misfit_no_earlier : (line : List Glyph) (w s t : ℕ) → 1 ≤ w → s ≤ t → first_misfit line w s ≤ first_misfit line (w + 1) t

@@ -1,29 +1,19 @@
-use Rattle.std.proofs.Common.{◌≡◌, ℕ, zero, suc, ◌+◌, ◌-◌, ◌<◌, ◌≤◌, ltb, List, [], ◌∷◌, length, sym, refl, ap, ◌∙◌, ⊎_elim, arith}
-use Rattle.std.proofs.lemmas.Bool.{cases_lt, cond-true, cond-false, lt-ltb, le-ltb}
+use Rattle.std.proofs.Common.{◌≡◌, ℕ, zero, suc, ◌+◌, ◌-◌, ◌<◌, ◌≤◌, ltb, List, [], ◌∷◌, length, refl, ap, ◌∙◌, arith}
+use Rattle.std.proofs.lemmas.Bool.Decides.{nat_tests}
+use Rattle.std.proofs.lemmas.Bool.{cond-true, lt-ltb}
 use Rattle.glyphs.specs.declared.Glyph.{Glyph}
 use Rattle.wrap_laws.specs.Breaks.{Breaks, Breaking, rows_from, rows_by, places_from, places, rows, WiderNoMoreRows}
-
-one_row_more : (b : Breaks) (line : List Glyph) (w n s : ℕ) → s < length line → rows_from b line w (suc n) s ≡ suc (rows_from b line w n (b line w s).1)
-one_row_more b line w n s h = cond-true (ltb s (length line)) _ _ (lt-ltb s (length line) h)
-
-no_row_more : (b : Breaks) (line : List Glyph) (w n s : ℕ) → length line ≤ s → rows_from b line w n s ≡ 0
-no_row_more b line w zero s h = refl
-no_row_more b line w (suc n) s h = cond-false (ltb s (length line)) _ _ (le-ltb s (length line) h)
 
 -- However many rows are asked for, if there is one for each glyph that is left, all come.
 enough : (b : Breaking) (line : List Glyph) (w m n s : ℕ) → length line ≤ s + m → length line ≤ s + n → places_from b.breaks line w m s ≡ places_from b.breaks line w n s
 enough b line w zero zero s h k = refl
-enough b line w zero (suc n) s h k = sym (cond-false (ltb s (length line)) _ _ (le-ltb s (length line) (omega arith)))
-enough b line w (suc m) zero s h k = cond-false (ltb s (length line)) _ _ (le-ltb s (length line) (omega arith))
+enough b line w zero (suc n) s h k = grind (arith, nat_tests)
+enough b line w (suc m) zero s h k = grind (arith, nat_tests)
 enough b line w (suc m) (suc n) s h k =
-    ⊎_elim
-    (λ l. let on = b.onward line w s l in
     let next = (b.breaks line w s).1 in
-    cond-true (ltb s (length line)) _ _ (lt-ltb s (length line) l)
-    ∙ ap (λ r. (s, (b.breaks line w s).0) ∷ r) (enough b line w m n next (omega arith) (omega arith))
-    ∙ sym (cond-true (ltb s (length line)) _ _ (lt-ltb s (length line) l)))
-    (λ l. cond-false (ltb s (length line)) _ _ (le-ltb s (length line) l) ∙ sym (cond-false (ltb s (length line)) _ _ (le-ltb s (length line) l)))
-    (cases_lt s (length line))
+    let on : s < length line → s < next = λ l. (b.onward line w s l).0 in
+    let rest : s < length line → places_from b.breaks line w m next ≡ places_from b.breaks line w n next = λ l. let o = on l in enough b line w m n next (omega arith) (omega arith) in
+    grind (arith, nat_tests)
 
 pub places_step : (b : Breaking) (line : List Glyph) (w s : ℕ) → s < length line → places b line w s ≡ (s, (b.breaks line w s).0) ∷ places b line w (b.breaks line w s).1
 places_step b line w s h =
@@ -39,20 +29,11 @@ places_end b line w s h = let none : length line - s ≡ 0 = omega arith in ap (
 
 places_counted : (b : Breaks) (line : List Glyph) (w n s : ℕ) → length (places_from b line w n s) ≡ rows_from b line w n s
 places_counted b line w zero s = refl
-places_counted b line w (suc n) s =
-    ⊎_elim
-    (λ l. ap length (cond-true (ltb s (length line)) ((s, (b line w s).0) ∷ places_from b line w n (b line w s).1) [] (lt-ltb s (length line) l))
-    ∙ ap suc (places_counted b line w n (b line w s).1) ∙ sym (one_row_more b line w n s l))
-    (λ l. ap length (cond-false (ltb s (length line)) ((s, (b line w s).0) ∷ places_from b line w n (b line w s).1) [] (le-ltb s (length line) l)) ∙ sym (no_row_more b line w (suc n) s l))
-    (cases_lt s (length line))
+places_counted b line w (suc n) s = let rest = places_counted b line w n (b line w s).1 in grind (arith, nat_tests)
 
 rows_at_most : (b : Breaks) (line : List Glyph) (w n s : ℕ) → rows_from b line w n s ≤ n
 rows_at_most b line w zero s = omega arith
-rows_at_most b line w (suc n) s =
-    ⊎_elim
-    (λ l. omega (arith, one_row_more b line w n s l, rows_at_most b line w n (b line w s).1))
-    (λ l. omega (arith, no_row_more b line w (suc n) s l))
-    (cases_lt s (length line))
+rows_at_most b line w (suc n) s = let rest = rows_at_most b line w n (b line w s).1 in grind (arith, nat_tests)
 
 -- As many rows as are counted, and no more than there are glyphs.
 pub row_counts : (b : Breaking) (line : List Glyph) (w : ℕ) → (length (places b line w 0) ≡ rows_from b.breaks line w (length line) 0) × (length (places b line w 0) ≤ length line)
@@ -66,11 +47,8 @@ module _ (b : Breaks) (line : List Glyph) (w : ℕ) (no-earlier : (s t : ℕ) �
   from : (n s t : ℕ) → s ≤ t → rows_from b line (w + 1) n t ≤ rows_from b line w n s
   from zero s t h = omega arith
   from (suc n) s t h =
-      ⊎_elim
-      (λ l. let k : s < length line = omega arith in
-      omega (arith, one_row_more b line (w + 1) n t l, one_row_more b line w n s k, from n (b line w s).1 (b line (w + 1) t).1 (no-earlier s t h l)))
-      (λ l. omega (arith, no_row_more b line (w + 1) (suc n) t l))
-      (cases_lt t (length line))
+      let rest : t < length line → rows_from b line (w + 1) n (b line (w + 1) t).1 ≤ rows_from b line w n (b line w s).1 = λ l. from n (b line w s).1 (b line (w + 1) t).1 (no-earlier s t h l) in
+      grind (arith, nat_tests)
 
   pub fewer_rows : rows_by b line (w + 1) ≤ rows_by b line w
   fewer_rows = omega (arith, from (length line) 0 0 (omega arith))

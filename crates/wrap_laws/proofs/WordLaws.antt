@@ -1,5 +1,6 @@
-use Rattle.std.proofs.Common.{◌≡◌, ℕ, zero, suc, ◌+◌, ◌-◌, ◌<◌, ◌≤◌, true, false, ltb, List, [], ◌∷◌, length, take, drop, Some, None, Option, sym, ap, ◌∙◌, ⊎_elim, arith}
-use Rattle.std.proofs.lemmas.Bool.{cases_lt, cases_Bool, cond-true, cond-false, both_ways, lt-ltb, le-ltb}
+use Rattle.std.proofs.Common.{◌≡◌, ℕ, zero, suc, ◌+◌, ◌-◌, ◌<◌, ◌≤◌, true, false, List, [], ◌∷◌, length, take, drop, Some, None, Option, sym, ap, ◌∙◌, ⊎_elim, arith}
+use Rattle.std.proofs.lemmas.Bool.Decides.{nat_tests}
+use Rattle.std.proofs.lemmas.Bool.{cases_lt, cases_Bool, both_ways}
 use Rattle.glyphs.specs.declared.Glyph.{Glyph}
 use Rattle.wrap_laws.specs.Breaks.{columns, space_at, rows_by}
 use Rattle.wrap_laws.specs.Rules.{first_misfit, past_spaces, worded, last_break, IsLastBreak, NoBreak, broken_at, word_break_at, word_break}
@@ -8,13 +9,13 @@ use Rattle.wrap_laws.proofs.RowCounts.{fewer_rows}
 use Rattle.wrap_laws.proofs.BreakPlaces.{past-all_spaces, past_stops, past_within, past_further_on, worded_wider, none_breaks, some_breaks, found, last_break_some, last_break_none}
 
 pub when_all_fit : (line : List Glyph) (s i : ℕ) → length line ≤ i → word_break_at line s i ≡ (i, i)
-when_all_fit line s i h = cond-false (ltb i (length line)) _ _ (le-ltb i (length line) h)
+when_all_fit line s i h = grind (arith, nat_tests)
 
 pub when_at-space : (line : List Glyph) (s i : ℕ) → i < length line → space_at line i ≡ true → word_break_at line s i ≡ (i, past_spaces line i)
-when_at-space line s i h y = cond-true (ltb i (length line)) _ _ (lt-ltb i (length line) h) ∙ cond-true (space_at line i) _ _ y
+when_at-space line s i h y = grind (arith, nat_tests)
 
 pub when_at_glyph : (line : List Glyph) (s i : ℕ) → i < length line → space_at line i ≡ false → word_break_at line s i ≡ broken_at i (last_break line s i)
-when_at_glyph line s i h n = cond-true (ltb i (length line)) _ _ (lt-ltb i (length line) h) ∙ cond-false (space_at line i) _ _ n
+when_at_glyph line s i h n = grind (arith, nat_tests)
 
 -- The four ways in which a row of the word rule ends.
 data Ending (line : List Glyph) (s i : ℕ) : Type 0 where
@@ -71,16 +72,14 @@ module _ (line : List Glyph) (s i : ℕ) (in_row : s < i) (in-line : i ≤ lengt
 
 past_no_earlier : (line : List Glyph) (i j : ℕ) → i ≤ j → i ≤ length line → past_spaces line i ≤ past_spaces line j
 past_no_earlier line i j h k =
-    ⊎_elim
-    (λ l. let w = past_within line i k in
-    let c : past_spaces line j < length line = omega arith in
-    absurd (both_ways (space_at line (past_spaces line j)) (past_stops line j c) (past-all_spaces line i (past_spaces line j) (omega arith) l)))
-    (λ l. l)
-    (cases_lt (past_spaces line j) (past_spaces line i))
+    let w = past_within line i k in
+    let stops = past_stops line j in
+    let all = past-all_spaces line i (past_spaces line j) in
+    grind (arith, nat_tests)
 
 -- A non-space at or after i is past the spaces from i on.
 past_upto : (line : List Glyph) (i j : ℕ) → i ≤ j → space_at line j ≡ false → past_spaces line i ≤ j
-past_upto line i j h n = ⊎_elim (λ l. absurd (both_ways (space_at line j) n (past-all_spaces line i j h l))) (λ l. l) (cases_lt j (past_spaces line i))
+past_upto line i j h n = let all = past-all_spaces line i j h in grind (arith, nat_tests)
 
 -- Of two rows, the one that starts no earlier and has its first misfit no earlier has its next start no earlier.
 module _ (line : List Glyph) (s t i j : ℕ) (later : s ≤ t) (further : i ≤ j) (in_row : s < i) (in-line : j ≤ length line) where

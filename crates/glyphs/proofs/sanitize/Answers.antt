@@ -1,9 +1,10 @@
 use Rattle.std.proofs.Common.{◌+◌, sym, ap, ◌∙◌, arith, rules}
+use Rattle.std.proofs.lemmas.Grind.{common_steps}
 use Rattle.std.specs.List.{flat_map}
 use lib.Seq.{sets}
 use Rattle.glyphs.specs.Pieces.{piece}
 use Rattle.glyphs.specs.Glyphs.{shown, sanitized}
-use Rattle.glyphs.proofs.Walking.{count_step, written_step, overwritten_sets}
+use Rattle.glyphs.proofs.Walking.{written_step, overwritten_sets}
 use Rattle.glyphs.proofs.Cleaning.{sanitized_sized, sanitized-clean}
 use Rattle.glyphs.proofs.sanitize.Goals as goal
 
@@ -12,13 +13,12 @@ loop-cut-preserved g c =
     let t = c.args.style in
     let e = c.in-Some.ensures.steps in
     let p = c.args.from + c.loop-cut.written in
-    let k = c.fill-written.result in
-    let n = count_step t (piece c.in-Some.cut) _ _ e in (
+    let k = c.fill-written.result in (
       c.fill-written.auto.glyphs ∙ c.loop-cut.auto.glyphs,
       omega arith,
       written_step t (piece c.in-Some.cut) _ _ e c.loop-cut.glyphs c.fill-written.new.glyphs p k (c.args.from + (c.loop-cut.written + k)) c.glyph_count-count.result c.glyph_of.result c.glyph_count-count.ensures.value c.glyph_of.ensures.value c.fill-written.ensures.after c.fill-written.ensures.value (omega arith)
           ∙ c.loop-cut.invariant.2,
-      omega arith,
+      grind (arith, common_steps),
     )
 
 pub returns-clause-after : goal.returns-clause-after
