@@ -4,13 +4,14 @@ use crate::stops::*;
 use crate::texts::{RuleName, RulerName};
 use crate::{pages, texts};
 use script::answer_line;
+use std::str::FromStr;
 use words::{Fault, Words, text_of};
 
 #[derive(Drop)]
 pub struct Desk {
     ruler: RulerName,
     rule: RuleName,
-    page: Page,
+    page: Option<Page>,
     window: Option<Part>,
 }
 
@@ -19,7 +20,7 @@ impl Desk {
         Desk {
             ruler: RulerName::Utf8,
             rule: RuleName::Word,
-            page: Page::Missing,
+            page: None,
             window: None,
         }
     }
@@ -31,17 +32,27 @@ impl Desk {
             return Ok(());
         };
         match name {
-            "ruler" => self.set_ruler(rt, words),
+            "ruler" => {
+                self.ruler = read_name(words)?;
+                let ruler = self.ruler;
+                println!(rt; "ruler {ruler}")?;
+                Ok(())
+            }
+            "rule" => {
+                self.rule = read_name(words)?;
+                let rule = self.rule;
+                println!(rt; "rule {rule}")?;
+                Ok(())
+            }
             "measure" => texts::measure(rt, self.ruler, words),
             "glyphs" => texts::glyphs(rt, self.ruler, words),
-            "rule" => self.set_rule(rt, words),
             "rows" => texts::rows(rt, self.ruler, self.rule, words),
             "cook" => texts::cook(rt, words),
             _ => self.take_page(rt, raw, name, words),
         }
     }
 
-    // The commands on pages, and then those that need nothing set up.
+    // The commands that make pages and keep them.
     fn take_page(
         &mut self,
         rt: &HostRuntime,
@@ -50,66 +61,57 @@ impl Desk {
         words: Words,
     ) -> Result<(), Stop> {
         match name {
-            "grid" => pages::grid(rt, &mut self.page, words),
-            "shelf" => pages::shelf(rt, &mut self.page, words),
-            "open" => pages::open(rt, &mut self.page, words),
-            "open-file" => pages::open_file(rt, &mut self.page, words),
-            "save" => pages::save(rt, &self.page, words),
-            "bytes" => pages::bytes(rt, &self.page, words),
-            "window" => {
-                self.window = pages::read_window(rt, words)?;
-                Ok(())
+            "grid" => self.page = Some(pages::grid(rt, words)?),
+            "shelf" => self.page = Some(pages::shelf(rt, words)?),
+            "open" => self.page = Some(pages::open(rt, words)?),
+            "open-file" => {
+                if let Some(page) = pages::open_file(rt, words)? {
+                    self.page = Some(page);
+                }
             }
-            "put" | "read" | "cells" | "show" => {
-                let act = read_act(rt, name, words)?;
-                pages::do_act(rt, &mut self.page, self.window, name, act)
+            "save" => pages::save(rt, self.page.as_ref(), words)?,
+            "bytes" => pages::bytes(rt, self.page.as_ref(), words)?,
+            "window" => self.window = pages::read_window(rt, words)?,
+            _ => self.take_act(rt, raw, name, words)?,
+        }
+        Ok(())
+    }
+
+    // The commands on a page, and then those that need nothing set up.
+    fn take_act(
+        &mut self,
+        rt: &HostRuntime,
+        raw: &[u8],
+        name: &str,
+        words: Words,
+    ) -> Result<(), Stop> {
+        match name {
+            "put" => self.act(rt, "put", pages::read_put(rt.alloc(), words)?),
+            "read" => self.act(rt, "read", pages::read_read(words)?),
+            "cells" => {
+                words.end()?;
+                self.act(rt, "cells", Act::Cells)
+            }
+            "show" => {
+                words.end()?;
+                self.act(rt, "show", Act::Show)
             }
             _ => other(rt, raw),
         }
     }
 
-    fn set_ruler(&mut self, rt: &HostRuntime, mut words: Words) -> Result<(), Stop> {
-        let ruler = match words.next_word() {
-            Some("byte") => RulerName::Byte,
-            Some("utf8") => RulerName::Utf8,
-            Some(_) => return Err(Stop::Line(Fault::UnknownName)),
-            None => return Err(Stop::Line(Fault::MissingName)),
-        };
-        words.end()?;
-        self.ruler = ruler;
-        let name = ruler.name();
-        println!(rt; "ruler {name}")?;
-        Ok(())
-    }
-
-    fn set_rule(&mut self, rt: &HostRuntime, mut words: Words) -> Result<(), Stop> {
-        let rule = match words.next_word() {
-            Some("word") => RuleName::Word,
-            Some("cutting") => RuleName::Cutting,
-            Some(_) => return Err(Stop::Line(Fault::UnknownName)),
-            None => return Err(Stop::Line(Fault::MissingName)),
-        };
-        words.end()?;
-        self.rule = rule;
-        let name = rule.name();
-        println!(rt; "rule {name}")?;
-        Ok(())
+    fn act(&mut self, rt: &HostRuntime, name: &'static str, act: Act) -> Result<(), Stop> {
+        let page = self.page.as_mut().ok_or(Stop::NoPage(name))?;
+        page.act(rt, self.window, act)
     }
 }
 
-fn read_act(rt: &HostRuntime, name: &str, words: Words) -> Result<Act, Fault> {
-    match name {
-        "put" => pages::read_put(rt.alloc(), words),
-        "read" => pages::read_read(words),
-        "cells" => {
-            words.end()?;
-            Ok(Act::Cells)
-        }
-        _ => {
-            words.end()?;
-            Ok(Act::Show)
-        }
-    }
+// The name that a line sets.
+fn read_name<T: FromStr<Err = Fault> + Drop>(mut words: Words) -> Result<T, Fault> {
+    let word = words.next_word().ok_or(Fault::MissingName)?;
+    let name = word.parse::<T>()?;
+    words.end()?;
+    Ok(name)
 }
 
 // The commands that need nothing set up.

@@ -31,6 +31,8 @@ fn main(rt: HostRuntime) -> anyhow::Result<()> {
                 troubled = true;
                 rt.println(Trouble { line, fault })?;
             }
+            Err(Stop::Refused(command, refusal)) => println!(rt; "{command} refused {refusal}")?,
+            Err(Stop::NoPage(command)) => println!(rt; "{command} no page")?,
             Err(Stop::Output(e)) => return Err(e.into()),
         }
     }

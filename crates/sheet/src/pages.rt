@@ -1,6 +1,6 @@
 // The commands on pages: a grid or a shelf, with a window over it where one is set.
 use crate::stops::*;
-use crate::texts::symbol_text;
+use crate::texts::{symbol_bytes, symbol_text};
 use grid::Grid;
 use page::{Cell, Refusal, Surface, Window};
 use shelf::Shelf;
@@ -15,21 +15,40 @@ const MOST_CELLS: u64 = 2_000_000;
 
 const MOST_BYTES: u64 = 20_000_000;
 
-// The page that a script works on: none before the first, then a grid's cells or a shelf's bytes, with its sides.
+// What a page is made over: a grid's cells or a shelf's bytes.
 #[derive(Drop)]
-pub enum Page {
-    Missing,
-    Grid(Vec<Cell>, u16, u16),
-    Shelf(Vec<u8>, u16, u16),
+enum Memory {
+    Cells(Vec<Cell>),
+    Bytes(Vec<u8>),
+}
+
+// The page that a script works on, with its sides.
+#[derive(Drop)]
+pub struct Page {
+    memory: Memory,
+    width: u16,
+    height: u16,
 }
 
 // A part of a page, from a corner on.
 #[derive(Clone, Copy)]
 pub struct Part {
-    pub x: u16,
-    pub y: u16,
-    pub width: u16,
-    pub height: u16,
+    x: u16,
+    y: u16,
+    width: u16,
+    height: u16,
+}
+
+impl Part {
+    fn over<S: Surface>(self, below: S) -> Window<S> {
+        Window {
+            below,
+            x: self.x,
+            y: self.y,
+            width: self.width,
+            height: self.height,
+        }
+    }
 }
 
 // What is done on a page, through its window.
@@ -49,7 +68,7 @@ pub struct Put {
     style: Style,
 }
 
-fn side(words: &mut Words) -> Result<u16, Fault> {
+pub fn side(words: &mut Words) -> Result<u16, Fault> {
     Ok(words.next_number(65535)? as u16)
 }
 
@@ -57,105 +76,103 @@ fn byte(words: &mut Words) -> Result<u8, Fault> {
     Ok(words.next_number(255)? as u8)
 }
 
-// How much memory a page is made over: as much as the line says, or else what it needs.
-fn amount(words: &mut Words, most: u64, needed: usize) -> Result<usize, Fault> {
-    if words.end().is_ok() {
-        return Ok(needed);
+// How much memory a page needs, by the check of a page over none: nothing where no memory makes it.
+fn needed(over_none: Result<(), Refusal>) -> usize {
+    match over_none {
+        Err(Refusal::Amount(count)) => usize::try_from(count).unwrap_or(0),
+        _ => 0,
     }
-    Ok(words.next_number(most)? as usize)
 }
 
-fn print_refused(rt: &HostRuntime, name: &str, refusal: Refusal) -> Result<(), Stop> {
-    let number = refusal.number();
-    match refusal.value() {
-        Some(value) => println!(rt; "{name} refused {number} {value}")?,
-        None => println!(rt; "{name} refused {number}")?,
-    }
-    Ok(())
-}
-
-pub fn grid(rt: &HostRuntime, page: &mut Page, mut words: Words) -> Result<(), Stop> {
+// The sides of a page, and how much memory it is made over: as much as the line says, or else what it needs.
+fn read_sides<F: FnOnce(u16, u16) -> Result<(), Refusal>>(
+    mut words: Words,
+    most: u64,
+    over_none: F,
+) -> Result<(u16, u16, usize), Fault>
+    requires { F.IsAlwaysCallable over_none }
+{
     let width = side(&mut words)?;
     let height = side(&mut words)?;
-    let count = amount(
-        &mut words,
-        MOST_CELLS,
-        (width.min(1024) as usize) * (height.min(1024) as usize),
-    )?;
+    let count = if words.end().is_ok() {
+        needed(over_none(width, height))
+    } else {
+        words.next_number(most)? as usize
+    };
     words.end()?;
+    Ok((width, height, count))
+}
+
+pub fn grid(rt: &HostRuntime, words: Words) -> Result<Page, Stop> {
+    let (width, height, count) = read_sides(words, MOST_CELLS, |w, h| Grid::check(&[], w, h))?;
     let mut cells = vec![in rt.alloc(); Cell::FRESH; count]?;
-    if let Err(refusal) = Grid::check(cells.as_slice(), width, height) {
-        return print_refused(rt, "grid", refusal);
-    }
+    Grid::check(cells.as_slice(), width, height).map_err(|e| Stop::Refused("grid", e))?;
     let _grid = Grid::new(cells.as_mut_slice(), width, height);
-    *page = Page::Grid(cells, width, height);
     println!(rt; "grid {width} {height}")?;
-    Ok(())
+    Ok(Page {
+        memory: Memory::Cells(cells),
+        width,
+        height,
+    })
 }
 
-// The bytes that a shelf of these sides takes.
-fn shelf_bytes(width: u16, height: u16) -> usize {
-    let cells = (width.min(1024) as usize) * (height.min(1024) as usize);
-    (cells + 30) / 31 * 512
-}
-
-pub fn shelf(rt: &HostRuntime, page: &mut Page, mut words: Words) -> Result<(), Stop> {
-    let width = side(&mut words)?;
-    let height = side(&mut words)?;
-    let count = amount(&mut words, MOST_BYTES, shelf_bytes(width, height))?;
-    words.end()?;
+pub fn shelf(rt: &HostRuntime, words: Words) -> Result<Page, Stop> {
+    let (width, height, count) = read_sides(words, MOST_BYTES, |w, h| Shelf::check(&[], w, h))?;
     let mut bytes = vec![in rt.alloc(); 0u8; count]?;
-    if let Err(refusal) = Shelf::check(bytes.as_slice(), width, height) {
-        return print_refused(rt, "shelf", refusal);
-    }
+    Shelf::check(bytes.as_slice(), width, height).map_err(|e| Stop::Refused("shelf", e))?;
     let _shelf = Shelf::new(bytes.as_mut_slice(), width, height);
-    *page = Page::Shelf(bytes, width, height);
     println!(rt; "shelf {width} {height}")?;
-    Ok(())
+    Ok(Page {
+        memory: Memory::Bytes(bytes),
+        width,
+        height,
+    })
 }
 
 // Takes over the bytes of a shelf.
-fn take_shelf(rt: &HostRuntime, page: &mut Page, mut bytes: Vec<u8>) -> Result<(), Stop> {
-    if let Err(refusal) = Shelf::check_open(bytes.as_slice()) {
-        return print_refused(rt, "open", refusal);
-    }
+fn take_shelf(rt: &HostRuntime, mut bytes: Vec<u8>) -> Result<Page, Stop> {
+    Shelf::check_open(bytes.as_slice()).map_err(|e| Stop::Refused("open", e))?;
     let shelf = Shelf::open(bytes.as_mut_slice());
     let width = shelf.width();
     let height = shelf.height();
-    *page = Page::Shelf(bytes, width, height);
     println!(rt; "open {width} {height}")?;
-    Ok(())
+    Ok(Page {
+        memory: Memory::Bytes(bytes),
+        width,
+        height,
+    })
 }
 
-pub fn open(rt: &HostRuntime, page: &mut Page, mut words: Words) -> Result<(), Stop> {
+pub fn open(rt: &HostRuntime, mut words: Words) -> Result<Page, Stop> {
     let bytes = words.next_bytes(rt.alloc())?;
     words.end()?;
-    take_shelf(rt, page, bytes)
+    take_shelf(rt, bytes)
 }
 
-pub fn open_file(rt: &HostRuntime, page: &mut Page, mut words: Words) -> Result<(), Stop> {
-    let Some(name) = words.next_word() else {
-        return Err(Stop::Line(Fault::MissingName));
-    };
+// The name of a file, the last word of a line.
+fn file_name<'a>(mut words: Words<'a>) -> Result<&'a str, Fault> {
+    let name = words.next_word().ok_or(Fault::MissingName)?;
     words.end()?;
-    match fs::read(rt, name) {
-        Ok(bytes) => take_shelf(rt, page, bytes),
+    Ok(name)
+}
+
+// The page in a file, none where the file cannot be read.
+pub fn open_file(rt: &HostRuntime, words: Words) -> Result<Option<Page>, Stop> {
+    match fs::read(rt, file_name(words)?) {
+        Ok(bytes) => Ok(Some(take_shelf(rt, bytes)?)),
         Err(_) => {
             println!(rt; "open-file failed")?;
-            Ok(())
+            Ok(None)
         }
     }
 }
 
-pub fn save(rt: &HostRuntime, page: &Page, mut words: Words) -> Result<(), Stop> {
-    let Some(name) = words.next_word() else {
-        return Err(Stop::Line(Fault::MissingName));
-    };
-    words.end()?;
-    match page {
-        Page::Missing => println!(rt; "save no page")?,
-        Page::Grid(_, _, _) => println!(rt; "save none")?,
-        Page::Shelf(bytes, _, _) => match fs::write(rt, name, bytes.as_slice()) {
+pub fn save(rt: &HostRuntime, page: Option<&Page>, words: Words) -> Result<(), Stop> {
+    let name = file_name(words)?;
+    let page = page.ok_or(Stop::NoPage("save"))?;
+    match &page.memory {
+        Memory::Cells(_) => println!(rt; "save none")?,
+        Memory::Bytes(bytes) => match fs::write(rt, name, bytes.as_slice()) {
             Ok(()) => println!(rt; "save {name}")?,
             Err(_) => println!(rt; "save failed")?,
         },
@@ -163,12 +180,12 @@ pub fn save(rt: &HostRuntime, page: &Page, mut words: Words) -> Result<(), Stop>
     Ok(())
 }
 
-pub fn bytes(rt: &HostRuntime, page: &Page, words: Words) -> Result<(), Stop> {
+pub fn bytes(rt: &HostRuntime, page: Option<&Page>, words: Words) -> Result<(), Stop> {
     words.end()?;
-    match page {
-        Page::Missing => println!(rt; "bytes no page")?,
-        Page::Grid(_, _, _) => println!(rt; "bytes none")?,
-        Page::Shelf(bytes, _, _) => {
+    let page = page.ok_or(Stop::NoPage("bytes"))?;
+    match &page.memory {
+        Memory::Cells(_) => println!(rt; "bytes none")?,
+        Memory::Bytes(bytes) => {
             let text = hex_text(rt.alloc(), bytes.as_slice())?;
             println!(rt; "bytes {text}")?;
         }
@@ -223,34 +240,28 @@ pub fn read_read(mut words: Words) -> Result<Act, Fault> {
     Ok(Act::Read(x, y))
 }
 
-// Does it on the page, or says that there is none.
-pub fn do_act(
-    rt: &HostRuntime,
-    page: &mut Page,
-    window: Option<Part>,
-    name: &str,
-    act: Act,
-) -> Result<(), Stop> {
-    match page {
-        Page::Missing => {
-            println!(rt; "{name} no page")?;
-            Ok(())
-        }
-        Page::Grid(cells, width, height) => {
-            let grid = Grid {
-                cells: cells.as_mut_slice(),
-                width: *width,
-                height: *height,
-            };
-            through(rt, grid, window, act)
-        }
-        Page::Shelf(bytes, width, height) => {
-            let shelf = Shelf {
-                bytes: bytes.as_mut_slice(),
-                width: *width,
-                height: *height,
-            };
-            through(rt, shelf, window, act)
+impl Page {
+    // Does it on the page, through the window where one is set.
+    pub fn act(&mut self, rt: &HostRuntime, window: Option<Part>, act: Act) -> Result<(), Stop> {
+        let width = self.width;
+        let height = self.height;
+        match &mut self.memory {
+            Memory::Cells(cells) => {
+                let grid = Grid {
+                    cells: cells.as_mut_slice(),
+                    width,
+                    height,
+                };
+                through(rt, grid, window, act)
+            }
+            Memory::Bytes(bytes) => {
+                let shelf = Shelf {
+                    bytes: bytes.as_mut_slice(),
+                    width,
+                    height,
+                };
+                through(rt, shelf, window, act)
+            }
         }
     }
 }
@@ -263,35 +274,18 @@ fn through<S: Surface + Drop>(
 ) -> Result<(), Stop> {
     match window {
         None => perform(rt, page, act),
-        Some(
-            Part {
-                x,
-                y,
-                width,
-                height,
-            },
-        ) => {
-            let window = Window {
-                below: page,
-                x,
-                y,
-                width,
-                height,
-            };
-            perform(rt, window, act)
-        }
+        Some(part) => perform(rt, part.over(page), act),
     }
 }
 
 fn perform<S: Surface + Drop>(rt: &HostRuntime, mut page: S, act: Act) -> Result<(), Stop> {
     match act {
-        Act::Put(put) => match page.put(put.x, put.y, put.symbol.as_slice(), put.style) {
-            Ok(()) => {
-                println!(rt; "put ok")?;
-                Ok(())
-            }
-            Err(refusal) => print_refused(rt, "put", refusal),
-        },
+        Act::Put(put) => {
+            page.put(put.x, put.y, put.symbol.as_slice(), put.style)
+                .map_err(|e| Stop::Refused("put", e))?;
+            println!(rt; "put ok")?;
+            Ok(())
+        }
         Act::Read(x, y) => {
             match page.read(x, y) {
                 Some(cell) => print_cell(rt, "read ", x, y, cell)?,
@@ -361,8 +355,7 @@ fn row_text<S: Surface>(heap: Global, page: &S, width: u16, y: u16) -> Result<St
 // A symbol that is text without controls as it is, any other as the replacement sign.
 fn push_symbol(row: &mut String, cell: Cell) -> Result<(), Stop> {
     let bytes = cell.symbol.to_bytes();
-    let len = (cell.symbol.len as usize).min(8);
-    match from_utf8(&bytes[0..len]) {
+    match from_utf8(symbol_bytes(&bytes, cell.symbol)) {
         Ok(symbol) if !has_control(symbol) => row.push_str(symbol)?,
         _ => row.push('\u{FFFD}')?,
     }
@@ -370,10 +363,5 @@ fn push_symbol(row: &mut String, cell: Cell) -> Result<(), Stop> {
 }
 
 fn has_control(symbol: &str) -> bool {
-    for c in symbol.chars() {
-        if c.is_control() {
-            return true;
-        }
-    }
-    false
+    symbol.chars().any(|c| c.is_control())
 }

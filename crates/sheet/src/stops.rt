@@ -1,10 +1,16 @@
-// Why a command was not carried out: its line cannot be read, or the output failed.
+// Why a command was not carried out: its line cannot be read, what it asks for is refused, or the output failed.
+use page::Refusal;
 use std::alloc::{AllocError, AllocFailed};
 use std::{fmt, io};
 use words::Fault;
 
+#[derive(Drop)]
 pub enum Stop {
     Line(Fault),
+    // a command on pages, and why it is refused
+    Refused(&'static str, Refusal),
+    // a command on pages, before there is one
+    NoPage(&'static str),
     Output(io::Error),
 }
 
@@ -21,19 +27,19 @@ impl From<io::Error> for Stop {
 }
 
 impl From<AllocError> for Stop {
-    fn from(_e: AllocError) -> Stop {
-        Stop::Line(Fault::NoMemory)
+    fn from(e: AllocError) -> Stop {
+        Stop::Line(Fault::from(e))
     }
 }
 
 impl<T: Drop> From<AllocFailed<T>> for Stop {
-    fn from(_e: AllocFailed<T>) -> Stop {
-        Stop::Line(Fault::NoMemory)
+    fn from(e: AllocFailed<T>) -> Stop {
+        Stop::Line(Fault::from(e))
     }
 }
 
 impl From<fmt::Error> for Stop {
-    fn from(_e: fmt::Error) -> Stop {
-        Stop::Line(Fault::NoMemory)
+    fn from(e: fmt::Error) -> Stop {
+        Stop::Line(Fault::from(e))
     }
 }

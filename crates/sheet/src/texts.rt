@@ -1,39 +1,88 @@
 // The commands on byte strings: measuring, glyphs, rows and the streaming tail.
-use crate::stops::*;
-use glyphs::{Bytes, Glyph, Ruler, Utf8, count_glyphs, cut_at, sanitize};
-use std::alloc::Global;
-use style::{Style, Symbol};
-use tail::{Cooked, cook_streaming_tail};
-use words::{Fault, Words, hex_text};
-use wrap::{BreakingRule, CuttingRule, WordRule, row_count};
+ghost use Rattle.sheet.specs.Names.{ruling_of};
 
+use crate::pages::side;
+use crate::stops::*;
+use glyphs::{Bytes, Cluster, Clusters, Glyph, Ruler, Utf8, count_glyphs, sanitize};
+use std::alloc::Global;
+use std::fmt;
+use std::str::FromStr;
+use style::{Style, Symbol};
+use tail::{Refusal, cook_streaming_tail, cooked_text};
+use words::{Fault, Words, hex_text};
+use wrap::{BreakingRule, CuttingRule, Rows, WordRule, row_count};
+
+// A ruler, as a script names it.
 #[derive(Clone, Copy)]
 pub enum RulerName {
     Byte,
     Utf8,
 }
 
-impl RulerName {
-    pub fn name(self) -> &'static str {
-        match self {
-            RulerName::Byte => "byte",
-            RulerName::Utf8 => "utf8",
+impl FromStr for RulerName {
+    type Err = Fault;
+
+    fn from_str(word: &str) -> Result<RulerName, Fault> {
+        match word {
+            "byte" => Ok(RulerName::Byte),
+            "utf8" => Ok(RulerName::Utf8),
+            _ => Err(Fault::UnknownName),
         }
     }
 }
 
+impl Ruler for RulerName {
+    ghost meaning = { ruling_of };
+
+    fn admits(&self, text: &[u8]) -> bool {
+        match self {
+            RulerName::Byte => Bytes.admits(text),
+            RulerName::Utf8 => Utf8.admits(text),
+        }
+    }
+
+    fn cluster(&self, text: &[u8], at: usize) -> Cluster {
+        match self {
+            RulerName::Byte => Bytes.cluster(text, at),
+            RulerName::Utf8 => Utf8.cluster(text, at),
+        }
+    }
+}
+
+impl fmt::Display for RulerName {
+    fn fmt<W: fmt::Write>(&self, f: &mut fmt::Formatter<W>) -> fmt::Result {
+        f.write_str(match self {
+            RulerName::Byte => "byte",
+            RulerName::Utf8 => "utf8",
+        })
+    }
+}
+
+// A breaking rule, as a script names it.
 #[derive(Clone, Copy)]
 pub enum RuleName {
     Word,
     Cutting,
 }
 
-impl RuleName {
-    pub fn name(self) -> &'static str {
-        match self {
+impl FromStr for RuleName {
+    type Err = Fault;
+
+    fn from_str(word: &str) -> Result<RuleName, Fault> {
+        match word {
+            "word" => Ok(RuleName::Word),
+            "cutting" => Ok(RuleName::Cutting),
+            _ => Err(Fault::UnknownName),
+        }
+    }
+}
+
+impl fmt::Display for RuleName {
+    fn fmt<W: fmt::Write>(&self, f: &mut fmt::Formatter<W>) -> fmt::Result {
+        f.write_str(match self {
             RuleName::Word => "word",
             RuleName::Cutting => "cutting",
-        }
+        })
     }
 }
 
@@ -46,51 +95,36 @@ const BLANK: Glyph = Glyph {
 pub fn measure(rt: &HostRuntime, ruler: RulerName, mut words: Words) -> Result<(), Stop> {
     let text = words.next_bytes(rt.alloc())?;
     words.end()?;
-    match ruler {
-        RulerName::Byte => print_clusters(rt, &Bytes, text.as_slice()),
-        RulerName::Utf8 => print_clusters(rt, &Utf8, text.as_slice()),
-    }
-}
-
-fn print_clusters<R: Ruler>(rt: &HostRuntime, ruler: &R, text: &[u8]) -> Result<(), Stop> {
+    let text = text.as_slice();
     if !ruler.admits(text) {
         println!(rt; "measure refused")?;
         return Ok(());
     }
     let mut line = String::from_str(rt.alloc(), "measure")?;
-    let mut at = 0;
-    while let Some(cut) = cut_at(ruler, text, at) {
+    for cut in Clusters::new(&ruler, text) {
         let bytes = hex_text(rt.alloc(), cut.bytes)?;
         let width = cut.width;
         write!(line, " {bytes}:{width}")?;
-        at += cut.bytes.len();
     }
     rt.println(line)?;
     Ok(())
 }
 
 // The glyphs that a text becomes, where the ruler admits it.
-fn glyphs_of<R: Ruler>(heap: Global, ruler: &R, text: &[u8]) -> Result<Option<Vec<Glyph>>, Stop> {
+fn glyphs_of(heap: Global, ruler: RulerName, text: &[u8]) -> Result<Option<Vec<Glyph>>, Stop> {
     if !ruler.admits(text) {
         return Ok(None);
     }
-    let count = count_glyphs(ruler, text);
+    let count = count_glyphs(&ruler, text);
     let mut memory = vec![in heap; BLANK; count]?;
-    sanitize(ruler, text, Style::PLAIN, memory.as_mut_slice(), 0);
+    sanitize(&ruler, text, Style::PLAIN, memory.as_mut_slice(), 0);
     Ok(Some(memory))
-}
-
-fn glyphs_by(heap: Global, ruler: RulerName, text: &[u8]) -> Result<Option<Vec<Glyph>>, Stop> {
-    match ruler {
-        RulerName::Byte => glyphs_of(heap, &Bytes, text),
-        RulerName::Utf8 => glyphs_of(heap, &Utf8, text),
-    }
 }
 
 pub fn glyphs(rt: &HostRuntime, ruler: RulerName, mut words: Words) -> Result<(), Stop> {
     let text = words.next_bytes(rt.alloc())?;
     words.end()?;
-    let Some(glyphs) = glyphs_by(rt.alloc(), ruler, text.as_slice())? else {
+    let Some(glyphs) = glyphs_of(rt.alloc(), ruler, text.as_slice())? else {
         println!(rt; "glyphs refused")?;
         return Ok(());
     };
@@ -104,11 +138,14 @@ pub fn glyphs(rt: &HostRuntime, ruler: RulerName, mut words: Words) -> Result<()
     Ok(())
 }
 
+// A symbol's own bytes of the eight that stand for it.
+pub fn symbol_bytes(bytes: &[u8; 8], symbol: Symbol) -> &[u8] {
+    &bytes[..usize::from(symbol.len).min(8)]
+}
+
 // The bytes of a symbol as they are printed.
 pub fn symbol_text(heap: Global, symbol: Symbol) -> Result<String, Fault> {
-    let bytes = symbol.to_bytes();
-    let len = (symbol.len as usize).min(8);
-    hex_text(heap, &bytes[0..len])
+    hex_text(heap, symbol_bytes(&symbol.to_bytes(), symbol))
 }
 
 pub fn rows(
@@ -117,13 +154,13 @@ pub fn rows(
     rule: RuleName,
     mut words: Words,
 ) -> Result<(), Stop> {
-    let width = words.next_number(65535)? as u16;
+    let width = side(&mut words)?;
     let text = words.next_bytes(rt.alloc())?;
     words.end()?;
     if width == 0 {
         return Err(Stop::Line(Fault::TooNarrow));
     }
-    let Some(glyphs) = glyphs_by(rt.alloc(), ruler, text.as_slice())? else {
+    let Some(glyphs) = glyphs_of(rt.alloc(), ruler, text.as_slice())? else {
         println!(rt; "rows refused")?;
         return Ok(());
     };
@@ -133,20 +170,20 @@ pub fn rows(
     }
 }
 
-// The rows of a line, each by the places where it starts and ends.
+// The rows of a line, each by the places where it starts and ends: an empty line is one row.
 fn print_rows<R: BreakingRule>(
     rt: &HostRuntime,
     rule: &R,
     line: &[Glyph],
     width: u16,
 ) -> Result<(), Stop> {
-    let mut places = String::new(rt.alloc());
-    let mut start = 0;
     let count = row_count(rule, line, width);
-    for _ in 0..count {
-        let (end, next) = rule.break_row(line, width, start);
+    let mut places = String::new(rt.alloc());
+    if line.is_empty() {
+        places.push_str(" 0-0")?;
+    }
+    for (start, end) in Rows::new(rule, line, width) {
         write!(places, " {start}-{end}")?;
-        start = next;
     }
     println!(rt; "rows {width} {count}{places}")?;
     Ok(())
@@ -156,24 +193,23 @@ fn print_rows<R: BreakingRule>(
 pub fn cook(rt: &HostRuntime, mut words: Words) -> Result<(), Stop> {
     let source = words.next_bytes(rt.alloc())?;
     words.end()?;
-    let needed = match cook_streaming_tail(source.as_slice(), &mut []) {
+    let source = source.as_slice();
+    let len = match cook_streaming_tail(source, &mut []) {
         Ok(_) => {
             println!(rt; "cook same")?;
             return Ok(());
         }
-        Err(refusal) => refusal.numbered(),
-    };
-    if needed.0 != 4 {
-        let offset = needed.1;
-        println!(rt; "cook refused 3 {offset}")?;
-        return Ok(());
-    }
-    let Ok(len) = usize::try_from(needed.1) else {
-        return Err(Stop::Line(Fault::NoMemory));
+        Err(Refusal::TooShort(needed)) => {
+            usize::try_from(needed).map_err(|_| Stop::Line(Fault::NoMemory))?
+        }
+        Err(refusal) => {
+            println!(rt; "cook refused {refusal}")?;
+            return Ok(());
+        }
     };
     let mut out = vec![in rt.alloc(); 0u8; len]?;
-    if let Ok(cooked) = cook_streaming_tail(source.as_slice(), out.as_mut_slice()) {
-        let text = hex_text(rt.alloc(), cooked.text(source.as_slice(), out.as_slice()))?;
+    if let Ok(cooked) = cook_streaming_tail(source, out.as_mut_slice()) {
+        let text = hex_text(rt.alloc(), cooked_text(cooked, source, out.as_slice()))?;
         println!(rt; "cook {text}")?;
     }
     Ok(())
