@@ -1,20 +1,15 @@
-use Rattle.std.proofs.Common.{◌≡◌, ℕ, ◌<◌, Bool, true, false, not, ◌&&◌, eqb, List, [], ◌∷◌, ◌++◌, length, take, drop, IsUtf8, sym, refl, ap, ◌∙◌, arith}
+use Rattle.std.proofs.Common.{◌≡◌, ℕ, ◌<◌, Bool, true, false, ◌&&◌, eqb, List, [], ◌∷◌, ◌++◌, length, take, drop, IsUtf8, sym, refl, ap, ◌∙◌, arith}
 use lib.Utf8.{encode, encodes}
 use Rattle.std.specs.Char.{is_whitespace, is_not_whitespace}
 use Rattle.std.specs.Str.{NonePass, chars}
+use Rattle.std.proofs.lemmas.Bool.{false_from_ne_true, not-true, not-false}
 use Rattle.std.proofs.lemmas.Bool.Decides.{nat_tests}
-use Rattle.std.proofs.lemmas.List.{append_assoc, take-append-drop}
+use Rattle.std.proofs.lemmas.List.{append_assoc, append-nil, take-append-drop}
 use Rattle.std.proofs.lemmas.Str.Pattern.{IsTrimResult}
 use Rattle.std.proofs.lemmas.Str.{encodes-chars, encodes-append, chars_from_encodes, cons_from_encodes}
-use Rattle.blank.specs.Blanks.{all_white}
-
-not-false : (b : Bool) → not b ≡ false → b ≡ true
-not-false true e = refl
-not-false false e = let z : ◌≡◌ {A = ℕ} 0 1 = cc in absurd (omega arith)
-
-not-true : (b : Bool) → not b ≡ true → b ≡ false
-not-true false e = refl
-not-true true e = let z : ◌≡◌ {A = ℕ} 0 1 = cc in absurd (omega arith)
+use Rattle.clusters.specs.Texts.{is_text}
+use Rattle.clusters.proofs.Spelling.{text_decides}
+use Rattle.blank.specs.Blanks.{all_white, is_blank}
 
 and_false : (b : Bool) → (b && false) ≡ false
 and_false true = refl
@@ -24,10 +19,6 @@ and_false false = refl
 white_all : (cs ds : List ℕ) → NonePass is_not_whitespace cs → all_white ds ≡ true → all_white (cs ++ ds) ≡ true
 white_all [] ds f h = h
 white_all (c ∷ cs) ds f h = ap (λ b. b && all_white (cs ++ ds)) (not-false (is_whitespace c) f.0) ∙ white_all cs ds f.1 h
-
-white_nil : (cs : List ℕ) → cs ++ [] ≡ cs
-white_nil [] = refl
-white_nil (c ∷ cs) = ap (λ l. c ∷ l) (white_nil cs)
 
 -- one dark character is enough
 dark_one : (cs : List ℕ) (c : ℕ) (ds : List ℕ) → is_not_whitespace c ≡ true → all_white (cs ++ (c ∷ ds)) ≡ false
@@ -49,7 +40,7 @@ all-trimmed bs u h =
     let v = h.4 in
     let d : encodes v.0 ≡ drop m bs = v.1 ∙ (ap (λ l. l ++ drop n (drop m bs)) h.2 ∙ take-append-drop n (drop m bs)) in
     let e : encodes (w.0 ++ v.0) ≡ bs = encodes-append w.0 v.0 ∙ (ap (λ l. l ++ encodes v.0) w.1 ∙ (ap (λ l. take m bs ++ l) d ∙ take-append-drop m bs)) in
-    ap all_white (sym (chars_from_encodes (w.0 ++ v.0) bs u e)) ∙ white_all w.0 v.0 w.2 (ap all_white (sym (white_nil v.0)) ∙ white_all v.0 [] v.2 refl)
+    ap all_white (sym (chars_from_encodes (w.0 ++ v.0) bs u e)) ∙ white_all w.0 v.0 w.2 (ap all_white (sym (append-nil v.0)) ∙ white_all v.0 [] v.2 refl)
 
 some_left : (bs t : List ℕ) → IsUtf8 bs → IsTrimResult bs t → 0 < length t → all_white (chars bs) ≡ false
 some_left bs t u h l =
@@ -69,3 +60,9 @@ some_left bs t u h l =
 pub trimmed : (bs t : List ℕ) → IsUtf8 bs → IsTrimResult bs t → eqb (length t) 0 ≡ all_white (chars bs)
 trimmed bs [] u h = sym (all-trimmed bs u h)
 trimmed bs (x ∷ t) u h = let z : eqb (length (x ∷ t)) 0 ≡ false = grind (arith, nat_tests) in z ∙ sym (some_left bs (x ∷ t) u h (omega arith))
+
+pub blank_text : (bs t : List ℕ) (b : Bool) → (t ≡ bs) × IsUtf8 bs → b ≡ all_white (chars t) → b ≡ is_blank bs
+blank_text bs t b p e = e ∙ (ap (λ l. all_white (chars l)) p.0 ∙ sym (ap (λ v. v && all_white (chars bs)) ((text_decides bs).1 p.1)))
+
+pub blank_none : (bs : List ℕ) (b : Bool) → ¬ IsUtf8 bs → b ≡ false → b ≡ is_blank bs
+blank_none bs b h e = e ∙ sym (ap (λ v. v && all_white (chars bs)) (false_from_ne_true (is_text bs) (λ t. h ((text_decides bs).0 t))))

@@ -6,27 +6,23 @@
 
 #![tactic(auto)]
 
-ghost use Rattle.std.specs.Prelude.{◌≡◌, true};
+ghost use Rattle.std.specs.Prelude.{◌≡◌};
 ghost use Rattle.std.specs.Str.{chars};
-ghost use Rattle.clusters.specs.Texts.{is_text};
 ghost use Rattle.blank.specs.Blanks.{all_white, is_blank};
 
-use clusters::is_text;
 use std::str::from_utf8;
 
-// Whether bytes that are text hold white space alone.
-fn is_white(bytes: &[u8]) -> bool
-    requires { is_text bytes.now ≡ true }
-    ensures value { result ≡ all_white (chars bytes.now) }
+// Whether a text is white space alone.
+#[tactic(auto, using(crate::proofs::Whites::trimmed))]
+fn is_white(text: &str) -> bool
+    ensures value { result ≡ all_white (chars text.now) }
 {
-    match from_utf8(bytes) {
-        Ok(text) => text.trim().is_empty(),
-        Err(_) => false,
-    }
+    text.trim().is_empty()
 }
 
+#[tactic(auto, using(crate::proofs::Whites::blank_text, crate::proofs::Whites::blank_none))]
 pub fn is_blank(bytes: &[u8]) -> bool
     ensures value { result ≡ is_blank bytes.now }
 {
-    is_text(bytes) && is_white(bytes)
+    from_utf8(bytes).is_ok_and(is_white)
 }

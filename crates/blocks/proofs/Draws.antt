@@ -1,6 +1,8 @@
-use Rattle.std.proofs.Common.{◌≡◌, ℕ, zero, suc, ◌+◌, ◌-◌, ◌<◌, ◌≤◌, min, Bool, true, false, cond, ltb, List, [], ◌∷◌, ◌++◌, map, length, take, drop, set, replicate, sym, refl, ap, ◌∙◌, inl, inr, arith}
+use Rattle.std.proofs.Common.{◌≡◌, ℕ, zero, suc, ◌+◌, ◌-◌, ◌<◌, ◌≤◌, min, Bool, true, false, cond, ltb, List, [], ◌∷◌, ◌++◌, map, length, take, drop, set, replicate, Option, Some, None, sym, refl, ap, ◌∙◌, inl, inr, arith, rules}
+use Rattle.std.specs.Option.{is_some}
 use Rattle.std.proofs.lemmas.Bool.Decides.{nat_tests, leb_tells}
-use Rattle.std.proofs.lemmas.List.{append_assoc, append-nil, length_push, length-map, length-drop, length-take, drop-append-le, drop_all, drop_at, take_at, take-append-le, take-map, map_push, map-set, set_past}
+use Rattle.std.proofs.lemmas.List.{append_assoc, append-nil, length_push, length-map, length-drop, length-take, drop-append-le, drop_all, drop_at, take_at, take-append-le, take-map, take-replicate, map_push, map-set, set_past}
+use Rattle.std.proofs.lemmas.Simd.{map-map}
 use Rattle.glyphs.specs.declared.Glyph.{Glyph}
 use Rattle.records.specs.declared.kinds.Span.{Span}
 use Rattle.records.specs.declared.kinds.Row.{Row}
@@ -8,11 +10,12 @@ use Rattle.records.specs.declared.kinds.Info.{Info}
 use Rattle.records.specs.declared.kinds.Block.{Block}
 use Rattle.records.specs.declared.kinds.Block.TheVariants.{Text, Table}
 use Rattle.records.specs.Acts.{put, end_line, begin_table, end_entry, end_head, end_row, end_table}
-use Rattle.records.specs.Memory.{span, spanned, up}
+use Rattle.records.specs.Memory.{span, spanned}
 use Rattle.blocks.specs.Pieces.{Line, text, table, trim, texts, settled, padded, resized}
 use Rattle.blocks.specs.Drafts.{Draft, draft, flush, draw}
 use Rattle.blocks.specs.Reads.{entries_of, piece_of}
-use Rattle.blocks.proofs.Flats.{Flat, place, flat, flined, fadded, ffresh, fflushed, fbegun, fclosed}
+use Rattle.blocks.proofs.Flats.{Flat, place, flat, flined, fadded, ffresh, fflushed, fbegun, fended}
+use Rattle.blocks.proofs.Counts.{up-min}
 use Rattle.blocks.proofs.Trims.{is_nil, is_nil-push, trim_end, trim-take, trim_le, settled-append}
 
 -- all 32 entries of a row record
@@ -26,8 +29,8 @@ pub record Draws (f : Flat) (d : Draft) : Type 0 where
   pub bare : f.bare ≡ is_nil d.here
   pub lines : (x : List Glyph) → map (spanned (f.glyphs ++ x)) f.lines ≡ d.lines
   pub full : f.full ≡ length (trim d.lines)
-  pub begun : f.acc.begun ≡ d.begun
-  pub info : f.acc.info ≡ d.info
+  pub begun : is_some f.acc.info ≡ d.begun
+  pub info : (i : Info) → f.acc.info ≡ Some i → i ≡ d.info
   pub row : (x : List Glyph) → whole_of (f.glyphs ++ x) f.acc.row ≡ padded d.row
   pub entries : f.acc.entries ≡ min 65535 (length d.row)
   pub rows : (x : List Glyph) → map (whole_of (f.glyphs ++ x)) f.rows ≡ map padded d.rows
@@ -64,19 +67,11 @@ count_lines f d k = sym (length-map f.lines (spanned (f.glyphs ++ []))) ∙ ap l
 pub draws_lined : (f : Flat) (d : Draft) → Draws f d → Draws (flined f) (draw d end_line)
 draws_lined f d k =
     let s = span f.from (length f.glyphs) in
-    record {
-      from = omega arith;
-      here = drop_all (length f.glyphs) f.glyphs (omega arith);
-      bare = refl;
-      lines = λ x. map_push (spanned (f.glyphs ++ x)) f.lines s ∙ (ap (λ l. l ++ (spanned (f.glyphs ++ x) s ∷ [])) (k.lines x) ∙ ap (λ l. d.lines ++ (l ∷ [])) (line_read f.glyphs x f.from k.from ∙ k.here));
-      full = full_step f.bare f.full (length f.lines) d.lines d.here k.bare k.full (count_lines f d k);
-      begun = k.begun;
-      info = k.info;
-      row = k.row;
-      entries = k.entries;
-      rows = k.rows;
-      blocks = k.blocks;
-    }
+    let here = drop_all (length f.glyphs) f.glyphs (omega arith) in
+    let lines : (x : List Glyph) → map (spanned (f.glyphs ++ x)) (f.lines ++ (s ∷ [])) ≡ d.lines ++ (d.here ∷ []) = λ x.
+    map_push (spanned (f.glyphs ++ x)) f.lines s ∙ (ap (λ l. l ++ (spanned (f.glyphs ++ x) s ∷ [])) (k.lines x) ∙ ap (λ l. d.lines ++ (l ∷ [])) (line_read f.glyphs x f.from k.from ∙ k.here)) in
+    let full = full_step f.bare f.full (length f.lines) d.lines d.here k.bare k.full (count_lines f d k) in
+    search rules
 
 abbrev stretched : Draft → Draft
 stretched d = draft (d.pieces ++ (text d.lines ∷ [])) [] d.here d.begun d.info d.rows d.row
@@ -86,19 +81,9 @@ with_blocks f bs = record { glyphs = f.glyphs; from = f.from; bare = f.bare; old
 
 draws_with : (f : Flat) (d : Draft) (bs : List Block) → Draws f d →
     ((x : List Glyph) (y : List Span) (z : List Row) → map (piece_of (f.glyphs ++ x) ((f.old ++ f.lines) ++ y) (f.gone ++ z)) bs ≡ settled d.pieces ++ (texts (trim d.lines) ++ [])) → Draws (with_blocks f bs) (stretched d)
-draws_with f d bs k e = record {
-  from = k.from;
-  here = k.here;
-  bare = k.bare;
-  lines = λ x. refl;
-  full = refl;
-  begun = k.begun;
-  info = k.info;
-  row = k.row;
-  entries = k.entries;
-  rows = k.rows;
-  blocks = λ x y z. e x y z ∙ sym (settled-append d.pieces (text d.lines ∷ []));
-}
+draws_with f d bs k e =
+    let blocks : (x : List Glyph) (y : List Span) (z : List Row) → map (piece_of (f.glyphs ++ x) ((f.old ++ f.lines) ++ y) (f.gone ++ z)) bs ≡ settled (d.pieces ++ (text d.lines ∷ [])) = λ x y z. e x y z ∙ sym (settled-append d.pieces (text d.lines ∷ [])) in
+    search rules
 
 old_blocks : (f : Flat) (d : Draft) → Draws f d → (x : List Glyph) (y : List Span) (z : List Row) → map (piece_of (f.glyphs ++ x) ((f.old ++ f.lines) ++ y) (f.gone ++ z)) f.blocks ≡ settled d.pieces
 old_blocks f d k x y z = ap (λ l. map (piece_of (f.glyphs ++ x) l (f.gone ++ z)) f.blocks) (append_assoc f.old f.lines y) ∙ k.blocks x (f.lines ++ y) z
@@ -139,63 +124,30 @@ pub draws_flush : (f : Flat) (d : Draft) → Draws f d → Draws (fflushed f) (f
 draws_flush f d k = flush_by (ltb 0 (flined f).full) (flined f) (draw d end_line) refl (draws_lined f d k)
 
 draws_begun : (f : Flat) (d : Draft) (i : Info) → Draws f d → Draws (fbegun f i) (draft d.pieces d.lines d.here true i ([] ∷ []) [])
-draws_begun f d i k = record {
-  from = k.from;
-  here = k.here;
-  bare = k.bare;
-  lines = k.lines;
-  full = k.full;
-  begun = refl;
-  info = refl;
-  row = λ x. refl;
-  entries = refl;
-  rows = λ x. refl;
-  blocks = λ x y z. ap (λ l. map (piece_of (f.glyphs ++ x) (f.old ++ y) l) f.blocks) (append_assoc f.gone f.rows z) ∙ k.blocks x y (f.rows ++ z);
-}
+draws_begun f d i k =
+    let blocks : (x : List Glyph) (y : List Span) (z : List Row) → map (piece_of (f.glyphs ++ x) (f.old ++ y) ((f.gone ++ f.rows) ++ z)) f.blocks ≡ settled d.pieces = λ x y z. ap (λ l. map (piece_of (f.glyphs ++ x) (f.old ++ y) l) f.blocks) (append_assoc f.gone f.rows z) ∙ k.blocks x y (f.rows ++ z) in
+    search rules
 
 pub draws_begin : (f : Flat) (d : Draft) (i : Info) → Draws f d → Draws (flat f (begin_table i)) (draw d (begin_table i))
 draws_begin f d i k = draws_begun (fflushed f) (flush d) i (draws_flush f d k)
 
 pub draws_head : (f : Flat) (d : Draft) → Draws f d → Draws (flat f end_head) (draw d end_head)
-draws_head f d k = record {
-  from = k.from;
-  here = k.here;
-  bare = k.bare;
-  lines = k.lines;
-  full = k.full;
-  begun = k.begun;
-  info = k.info;
-  row = λ x. refl;
-  entries = refl;
-  rows = λ x. map-set (whole_of (f.glyphs ++ x)) f.rows 0 f.acc.row ∙ (ap (λ l. set l 0 (whole_of (f.glyphs ++ x) f.acc.row)) (k.rows x) ∙ (ap (set (map padded d.rows) 0) (k.row x) ∙ sym (map-set padded d.rows 0 d.row)));
-  blocks = k.blocks;
-}
+draws_head f d k =
+    let rows : (x : List Glyph) → map (whole_of (f.glyphs ++ x)) (set f.rows 0 f.acc.row) ≡ map padded (set d.rows 0 d.row) = λ x.
+    map-set (whole_of (f.glyphs ++ x)) f.rows 0 f.acc.row ∙ (ap (λ l. set l 0 (whole_of (f.glyphs ++ x) f.acc.row)) (k.rows x) ∙ (ap (set (map padded d.rows) 0) (k.row x) ∙ sym (map-set padded d.rows 0 d.row))) in
+    search rules
 
 pub draws_row : (f : Flat) (d : Draft) → Draws f d → Draws (flat f end_row) (draw d end_row)
-draws_row f d k = record {
-  from = k.from;
-  here = k.here;
-  bare = k.bare;
-  lines = k.lines;
-  full = k.full;
-  begun = k.begun;
-  info = k.info;
-  row = λ x. refl;
-  entries = refl;
-  rows = λ x. map_push (whole_of (f.glyphs ++ x)) f.rows f.acc.row ∙ (ap (λ l. l ++ (whole_of (f.glyphs ++ x) f.acc.row ∷ [])) (k.rows x) ∙ (ap (λ l. map padded d.rows ++ (l ∷ [])) (k.row x) ∙ sym (map_push padded d.rows d.row)));
-  blocks = k.blocks;
-}
+draws_row f d k =
+    let rows : (x : List Glyph) → map (whole_of (f.glyphs ++ x)) (f.rows ++ (f.acc.row ∷ [])) ≡ map padded (d.rows ++ (d.row ∷ [])) = λ x.
+    map_push (whole_of (f.glyphs ++ x)) f.rows f.acc.row ∙ (ap (λ l. l ++ (whole_of (f.glyphs ++ x) f.acc.row ∷ [])) (k.rows x) ∙ (ap (λ l. map padded d.rows ++ (l ∷ [])) (k.row x) ∙ sym (map_push padded d.rows d.row))) in
+    search rules
 
 -- an entry set behind those that came
-take_none : (x : Line) (k j : ℕ) → k ≤ j → take k (replicate j x) ≡ take k (replicate (suc j) x)
-take_none x zero j h = refl
-take_none x (suc k) zero h = absurd (omega arith)
-take_none x (suc k) (suc j) h = ap (λ l. x ∷ l) (take_none x k j (omega arith))
-
 set-padded : (k j : ℕ) (D : List Line) (h : Line) → k ≤ j → set (take k (D ++ replicate j [])) (length D) h ≡ take k ((D ++ (h ∷ [])) ++ replicate j [])
 set-padded zero j [] h e = refl
 set-padded (suc k) zero [] h e = absurd (omega arith)
-set-padded (suc k) (suc j) [] h e = ap (λ l. h ∷ l) (take_none [] k j (omega arith))
+set-padded (suc k) (suc j) [] h e = ap (λ l. h ∷ l) (take-replicate k j [] (omega arith) ∙ sym (take-replicate k (suc j) [] (omega arith)))
 set-padded zero j (d ∷ D) h e = refl
 set-padded (suc k) j (d ∷ D) h e = ap (λ l. d ∷ l) (set-padded k j D h (omega arith))
 
@@ -207,34 +159,19 @@ padded-push D h n e =
           set_past (padded D) n h (omega (arith, p.1)) ∙ (sym (set_past (padded D) (length D) h (omega (arith, p.1))) ∙ set-padded 32 32 D h (omega arith)))
     ]
 
-up-min : (m n : ℕ) → m ≡ min 65535 n → up m ≡ min 65535 (n + 1)
-up-min m n e = grind (arith, nat_tests)
-
 pub draws_entry : (f : Flat) (d : Draft) → Draws f d → Draws (flat f end_entry) (draw d end_entry)
 draws_entry f d k =
     let s = span f.from (length f.glyphs) in
     let r = f.acc.row in
     let n = f.acc.entries in
-    record {
-      from = omega arith;
-      here = drop_all (length f.glyphs) f.glyphs (omega arith);
-      bare = refl;
-      lines = k.lines;
-      full = k.full;
-      begun = k.begun;
-      info = k.info;
-      row = λ x. map-set (spanned (f.glyphs ++ x)) r.entries n s
-          ∙ (ap (λ l. set l n (spanned (f.glyphs ++ x) s)) (k.row x)
-          ∙ (ap (set (padded d.row) n) (line_read f.glyphs x f.from k.from ∙ k.here)
-          ∙ padded-push d.row d.here n k.entries));
-      entries = up-min n (length d.row) k.entries ∙ ap (min 65535) (sym (length_push d.row d.here));
-      rows = k.rows;
-      blocks = k.blocks;
-    }
-
-map-map : {X Y Z : Type 0} (f : Y → Z) (g : X → Y) (xs : List X) → map (λ x. f (g x)) xs ≡ map f (map g xs)
-map-map f g [] = refl
-map-map f g (x ∷ xs) = ap (λ l. f (g x) ∷ l) (map-map f g xs)
+    let here = drop_all (length f.glyphs) f.glyphs (omega arith) in
+    let row : (x : List Glyph) → map (spanned (f.glyphs ++ x)) (set r.entries n s) ≡ padded (d.row ++ (d.here ∷ [])) = λ x.
+    map-set (spanned (f.glyphs ++ x)) r.entries n s
+    ∙ (ap (λ l. set l n (spanned (f.glyphs ++ x) s)) (k.row x)
+    ∙ (ap (set (padded d.row) n) (line_read f.glyphs x f.from k.from ∙ k.here)
+    ∙ padded-push d.row d.here n k.entries)) in
+    let entries = up-min n (length d.row) k.entries ∙ ap (min 65535) (sym (length_push d.row d.here)) in
+    search rules
 
 table_read : (f : Flat) (d : Draft) (n : ℕ) → Draws f d → (x : List Glyph) (z : List Row) →
     map (entries_of (f.glyphs ++ x) n) (take (length f.rows) (drop (length f.gone) ((f.gone ++ f.rows) ++ z))) ≡ map (resized n) d.rows
@@ -243,36 +180,27 @@ table_read f d n k x z =
     ap (λ l. map F (take (length f.rows) (drop (length f.gone) l))) (append_assoc f.gone f.rows z)
     ∙ (ap (λ l. map F (take (length f.rows) l)) (drop_at f.gone (f.rows ++ z) (length f.gone) refl)
     ∙ (ap (map F) (take_at f.rows z (length f.rows) refl)
-    ∙ (map-map (take n) (whole_of (f.glyphs ++ x)) f.rows ∙ (ap (map (take n)) (k.rows x) ∙ sym (map-map (take n) padded d.rows)))))
+    ∙ (sym (map-map (take n) (whole_of (f.glyphs ++ x)) f.rows) ∙ (ap (map (take n)) (k.rows x) ∙ map-map (take n) padded d.rows))))
 
-draws_closed : (f : Flat) (d : Draft) → Draws f d → Draws (fclosed (fadded f (Table f.acc.info (place (length f.gone) (length f.rows))))) (draft (d.pieces ++ (table d.info (map (resized d.info.columns) d.rows) ∷ [])) d.lines d.here false d.info [] d.row)
-draws_closed f d k =
-    let t = Table f.acc.info (place (length f.gone) (length f.rows)) in
+draws_closed : (f : Flat) (d : Draft) (i : Info) → i ≡ d.info → Draws f d → Draws (fended (Some i) f) (draft (d.pieces ++ (table d.info (map (resized d.info.columns) d.rows) ∷ [])) d.lines d.here false d.info [] d.row)
+draws_closed f d i e k =
+    let t = Table i (place (length f.gone) (length f.rows)) in
     let p = table d.info (map (resized d.info.columns) d.rows) in
-    record {
-      from = k.from;
-      here = k.here;
-      bare = k.bare;
-      lines = k.lines;
-      full = k.full;
-      begun = refl;
-      info = k.info;
-      row = k.row;
-      entries = k.entries;
-      rows = λ x. refl;
-      blocks = λ x y z. map_push (piece_of (f.glyphs ++ x) (f.old ++ y) ((f.gone ++ f.rows) ++ z)) f.blocks t
-          ∙ (ap (λ l. l ++ (piece_of (f.glyphs ++ x) (f.old ++ y) ((f.gone ++ f.rows) ++ z) t ∷ []))
-          (ap (λ l. map (piece_of (f.glyphs ++ x) (f.old ++ y) l) f.blocks) (append_assoc f.gone f.rows z) ∙ k.blocks x y (f.rows ++ z))
-          ∙ (ap (λ (j : Info). settled d.pieces ++ (table j (map (entries_of (f.glyphs ++ x) j.columns) (take (length f.rows) (drop (length f.gone) ((f.gone ++ f.rows) ++ z)))) ∷ [])) k.info
-          ∙ (ap (λ l. settled d.pieces ++ (table d.info l ∷ [])) (table_read f d d.info.columns k x z)
-          ∙ sym (settled-append d.pieces (p ∷ [])))));
-    }
+    let blocks : (x : List Glyph) (y : List Span) (z : List Row) → map (piece_of (f.glyphs ++ x) (f.old ++ y) ((f.gone ++ f.rows) ++ z)) (f.blocks ++ (t ∷ [])) ≡ settled (d.pieces ++ (p ∷ [])) = λ x y z.
+    map_push (piece_of (f.glyphs ++ x) (f.old ++ y) ((f.gone ++ f.rows) ++ z)) f.blocks t
+    ∙ (ap (λ l. l ++ (piece_of (f.glyphs ++ x) (f.old ++ y) ((f.gone ++ f.rows) ++ z) t ∷ []))
+    (ap (λ l. map (piece_of (f.glyphs ++ x) (f.old ++ y) l) f.blocks) (append_assoc f.gone f.rows z) ∙ k.blocks x y (f.rows ++ z))
+    ∙ (ap (λ (j : Info). settled d.pieces ++ (table j (map (entries_of (f.glyphs ++ x) j.columns) (take (length f.rows) (drop (length f.gone) ((f.gone ++ f.rows) ++ z)))) ∷ [])) e
+    ∙ (ap (λ l. settled d.pieces ++ (table d.info l ∷ [])) (table_read f d d.info.columns k x z)
+    ∙ sym (settled-append d.pieces (p ∷ []))))) in
+    search rules
 
-closed_if : (b c : Bool) (f : Flat) (d : Draft) → b ≡ c → Draws f d → Draws (cond b (fclosed (fadded f (Table f.acc.info (place (length f.gone) (length f.rows))))) f) (cond c (draft (d.pieces ++ (table d.info (map (resized d.info.columns) d.rows) ∷ [])) d.lines d.here false d.info [] d.row) d)
-closed_if true true f d e k = draws_closed f d k
-closed_if false false f d e k = k
-closed_if true false f d e k = let z : ◌≡◌ {A = ℕ} 0 1 = cc in absurd (omega arith)
-closed_if false true f d e k = let z : ◌≡◌ {A = ℕ} 0 1 = cc in absurd (omega arith)
+draws_ended : (o : Option Info) (c : Bool) (f : Flat) (d : Draft) → f.acc.info ≡ o → is_some o ≡ c → Draws f d →
+    Draws (fended o f) (cond c (draft (d.pieces ++ (table d.info (map (resized d.info.columns) d.rows) ∷ [])) d.lines d.here false d.info [] d.row) d)
+draws_ended None false f d q e k = k
+draws_ended None true f d q e k = absurd (cc)
+draws_ended (Some i) false f d q e k = absurd (cc)
+draws_ended (Some i) true f d q e k = draws_closed f d i (k.info i q) k
 
 pub draws_table : (f : Flat) (d : Draft) → Draws f d → Draws (flat f end_table) (draw d end_table)
-draws_table f d k = closed_if f.acc.begun d.begun f d k.begun k
+draws_table f d k = draws_ended f.acc.info d.begun f d refl k.begun k

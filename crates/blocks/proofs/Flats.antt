@@ -1,4 +1,4 @@
-use Rattle.std.proofs.Common.{ℕ, ◌+◌, Bool, true, false, cond, ltb, List, [], ◌∷◌, ◌++◌, length, set}
+use Rattle.std.proofs.Common.{ℕ, ◌+◌, Bool, true, false, cond, ltb, List, [], ◌∷◌, ◌++◌, length, set, Option, Some, None}
 use Rattle.glyphs.specs.declared.Glyph.{Glyph}
 use Rattle.records.specs.declared.kinds.Span.{Span}
 use Rattle.records.specs.declared.kinds.Row.{Row}
@@ -10,13 +10,12 @@ use Rattle.records.specs.Memory.{span, blank_row, entered, up}
 
 -- The table under way, as the records keep it.
 pub record Grid : Type 0 where
-  pub begun : Bool
-  pub info : Info
+  pub info : Option Info
   pub row : Row
   pub entries : ℕ
 
-abbrev pub grid : Bool → Info → Row → ℕ → Grid
-grid b i r n = record { begun = b; info = i; row = r; entries = n }
+abbrev pub grid : Option Info → Row → ℕ → Grid
+grid i r n = record { info = i; row = r; entries = n }
 
 -- What is written, as lists that only grow at their ends: `old` and `gone` are the lines and rows of blocks.
 pub record Flat : Type 0 where
@@ -53,16 +52,20 @@ abbrev pub frowed : Flat → List Row → List Row → Grid → Flat
 frowed f g rs a = record { glyphs = f.glyphs; from = f.from; bare = f.bare; old = f.old; lines = f.lines; full = f.full; gone = g; rows = rs; acc = a; blocks = f.blocks }
 
 abbrev pub fbegun : Flat → Info → Flat
-fbegun f i = frowed f (f.gone ++ f.rows) (blank_row ∷ []) (grid true i blank_row 0)
+fbegun f i = frowed f (f.gone ++ f.rows) (blank_row ∷ []) (grid (Some i) blank_row 0)
 
 abbrev pub fclosed : Flat → Flat
-fclosed f = frowed f (f.gone ++ f.rows) [] (grid false f.acc.info f.acc.row f.acc.entries)
+fclosed f = frowed f (f.gone ++ f.rows) [] (grid None f.acc.row f.acc.entries)
+
+abbrev pub fended : Option Info → Flat → Flat
+fended None f = f
+fended (Some i) f = fclosed (fadded f (Table i (place (length f.gone) (length f.rows))))
 
 abbrev pub flat : Flat → Act → Flat
 flat f (put g) = record { glyphs = f.glyphs ++ (g ∷ []); from = f.from; bare = false; old = f.old; lines = f.lines; full = f.full; gone = f.gone; rows = f.rows; acc = f.acc; blocks = f.blocks }
 flat f end_line = flined f
 flat f (begin_table i) = fbegun (fflushed f) i
-flat f end_entry = record { glyphs = f.glyphs; from = length f.glyphs; bare = true; old = f.old; lines = f.lines; full = f.full; gone = f.gone; rows = f.rows; acc = grid f.acc.begun f.acc.info (entered f.acc.row f.acc.entries (span f.from (length f.glyphs))) (up f.acc.entries); blocks = f.blocks }
-flat f end_head = frowed f f.gone (set f.rows 0 f.acc.row) (grid f.acc.begun f.acc.info blank_row 0)
-flat f end_row = frowed f f.gone (f.rows ++ (f.acc.row ∷ [])) (grid f.acc.begun f.acc.info blank_row 0)
-flat f end_table = cond f.acc.begun (fclosed (fadded f (Table f.acc.info (place (length f.gone) (length f.rows))))) f
+flat f end_entry = record { glyphs = f.glyphs; from = length f.glyphs; bare = true; old = f.old; lines = f.lines; full = f.full; gone = f.gone; rows = f.rows; acc = grid f.acc.info (entered f.acc.row f.acc.entries (span f.from (length f.glyphs))) (up f.acc.entries); blocks = f.blocks }
+flat f end_head = frowed f f.gone (set f.rows 0 f.acc.row) (grid f.acc.info blank_row 0)
+flat f end_row = frowed f f.gone (f.rows ++ (f.acc.row ∷ [])) (grid f.acc.info blank_row 0)
+flat f end_table = fended f.acc.info f

@@ -1,4 +1,4 @@
-use Rattle.std.proofs.Common.{◌≡◌, ℕ, zero, suc, ◌+◌, ◌-◌, ◌<◌, ◌≤◌, Bool, true, false, cond, ltb, List, [], ◌∷◌, ◌++◌, length, take, set, sym, refl, ap, ◌∙◌, arith}
+use Rattle.std.proofs.Common.{◌≡◌, ℕ, zero, suc, ◌+◌, ◌-◌, ◌<◌, ◌≤◌, Bool, true, false, cond, ltb, List, [], ◌∷◌, ◌++◌, length, take, set, Option, Some, None, sym, refl, ap, ◌∙◌, subst, arith, rules}
 use Rattle.std.proofs.lemmas.Bool.Decides.{nat_tests}
 use Rattle.std.proofs.lemmas.List.{take_more_set, append_assoc, append-nil, length-append, length_push, length-set, set-append_right}
 use Rattle.glyphs.specs.declared.Glyph.{Glyph}
@@ -8,9 +8,9 @@ use Rattle.records.specs.declared.kinds.TableAcc.{TableAcc}
 use Rattle.records.specs.declared.kinds.Block.{Block}
 use Rattle.records.specs.declared.kinds.Block.TheVariants.{Text, Table}
 use Rattle.records.specs.Acts.{put, end_entry, end_head, end_row, end_table}
-use Rattle.records.specs.Memory.{Memory, act, up, span, blank_row, entered, added, lined, texted, fresh, begun, closed}
+use Rattle.records.specs.Memory.{Memory, act, up, span, blank_row, entered, added, lined, texted, fresh, begun, closed, ended}
 use Rattle.blocks.specs.Reads.{Fits}
-use Rattle.blocks.proofs.Flats.{Grid, grid, Flat, place, flat, flined, fadded, ftexted, ffresh, fbegun, fclosed}
+use Rattle.blocks.proofs.Flats.{Grid, grid, Flat, place, flat, flined, fadded, ftexted, ffresh, fbegun, fended}
 
 -- n places of xs are written, and hold ys
 pub record Part {X : Type 0} (xs : List X) (n : ℕ) (ys : List X) : Type 0 where
@@ -18,7 +18,7 @@ pub record Part {X : Type 0} (xs : List X) (n : ℕ) (ys : List X) : Type 0 wher
   pub many : n ≡ length ys
 
 abbrev pub grid_of : TableAcc → Grid
-grid_of a = grid a.begun a.info a.row a.entries
+grid_of a = grid a.info a.row a.entries
 
 -- the records hold the lists
 pub record Keeps (m : Memory) (f : Flat) : Type 0 where
@@ -50,18 +50,7 @@ part_as : {X : Type 0} (xs : List X) (n : ℕ) (ys zs : List X) → Part xs n ys
 part_as xs n ys zs p e = record { holds = p.holds ∙ e; many = p.many ∙ ap length e }
 
 pub keeps_put : (m : Memory) (f : Flat) (g : Glyph) → Keeps m f → Fits (act m (put g)) → Keeps (act m (put g)) (flat f (put g))
-keeps_put m f g k h = record {
-  glyphs = part_more m.glyphs m.used.glyphs f.glyphs g k.glyphs h.glyphs;
-  from = k.from;
-  bare = refl;
-  lines = k.lines;
-  first = k.first;
-  full = k.full;
-  rows = k.rows;
-  head = k.head;
-  acc = k.acc;
-  blocks = k.blocks;
-}
+keeps_put m f g k h = let p = part_more m.glyphs m.used.glyphs f.glyphs g k.glyphs h.glyphs in search rules
 
 spans : (a b c d : ℕ) → a ≡ c → b ≡ d → span a b ≡ span c d
 spans a b c d p q = rw (p, q) refl
@@ -76,40 +65,22 @@ keeps_lined m f k h =
     let e : s ≡ span f.from (length f.glyphs) = spans m.text.from m.used.glyphs f.from (length f.glyphs) k.from k.glyphs.many in
     let u = up_fits n (length (set m.lines n s)) h.lines.0 h.lines.1 in
     let w : up n ≡ length f.old + (length f.lines + 1) = omega (arith, u.0, k.lines.many, length-append f.old f.lines) in
-    record {
-      glyphs = k.glyphs;
-      from = k.glyphs.many;
-      bare = refl;
-      lines = part_as (set m.lines n s) (up n) ((f.old ++ f.lines) ++ (s ∷ [])) (f.old ++ (f.lines ++ (span f.from (length f.glyphs) ∷ [])))
-          (part_more m.lines n (f.old ++ f.lines) s k.lines h.lines)
-          (append_assoc f.old f.lines (s ∷ []) ∙ ap (λ x. f.old ++ (f.lines ++ (x ∷ []))) e);
-      first = k.first;
-      full = full_more m.text.bare f.bare m.text.full (length f.old) f.full (up n) (length f.lines + 1) k.bare k.full w;
-      rows = k.rows;
-      head = k.head;
-      acc = k.acc;
-      blocks = k.blocks;
-    }
+    let p = part_as (set m.lines n s) (up n) ((f.old ++ f.lines) ++ (s ∷ [])) (f.old ++ (f.lines ++ (span f.from (length f.glyphs) ∷ [])))
+    (part_more m.lines n (f.old ++ f.lines) s k.lines h.lines)
+    (append_assoc f.old f.lines (s ∷ []) ∙ ap (λ x. f.old ++ (f.lines ++ (x ∷ []))) e) in
+    let v = full_more m.text.bare f.bare m.text.full (length f.old) f.full (up n) (length f.lines + 1) k.bare k.full w in
+    search rules
 
 keeps_added : (m : Memory) (f : Flat) (b c : Block) → b ≡ c → Keeps m f → Fits (added m b) → Keeps (added m b) (fadded f c)
-keeps_added m f b c e k h = record {
-  glyphs = k.glyphs;
-  from = k.from;
-  bare = k.bare;
-  lines = k.lines;
-  first = k.first;
-  full = k.full;
-  rows = k.rows;
-  head = k.head;
-  acc = k.acc;
-  blocks = part_as (set m.blocks m.used.blocks b) (up m.used.blocks) (f.blocks ++ (b ∷ [])) (f.blocks ++ (c ∷ [])) (part_more m.blocks m.used.blocks f.blocks b k.blocks h.blocks) (ap (λ x. f.blocks ++ (x ∷ [])) e);
-}
+keeps_added m f b c e k h =
+    let p = part_as (set m.blocks m.used.blocks b) (up m.used.blocks) (f.blocks ++ (b ∷ [])) (f.blocks ++ (c ∷ [])) (part_more m.blocks m.used.blocks f.blocks b k.blocks h.blocks) (ap (λ x. f.blocks ++ (x ∷ [])) e) in
+    search rules
 
 keeps_if : (b c : Bool) (m : Memory) (f : Flat) (x y : Block) → b ≡ c → x ≡ y → Keeps m f → Fits (cond b (added m x) m) → Keeps (cond b (added m x) m) (cond c (fadded f y) f)
 keeps_if true true m f x y e q k h = keeps_added m f x y q k h
 keeps_if false false m f x y e q k h = k
-keeps_if true false m f x y e q k h = let z : ◌≡◌ {A = ℕ} 0 1 = cc in absurd (omega arith)
-keeps_if false true m f x y e q k h = let z : ◌≡◌ {A = ℕ} 0 1 = cc in absurd (omega arith)
+keeps_if true false m f x y e q k h = absurd (cc)
+keeps_if false true m f x y e q k h = absurd (cc)
 
 pub keeps_texted : (m : Memory) (f : Flat) → Keeps m f → Fits (texted m) → Keeps (texted m) (ftexted f)
 keeps_texted m f k h =
@@ -119,47 +90,19 @@ keeps_texted m f k h =
     keeps_if (ltb m.text.first m.text.full) (ltb 0 f.full) m f (Text (span m.text.first m.text.full)) (Text (place o f.full)) e q k h
 
 pub keeps_fresh : (m : Memory) (f : Flat) → Keeps m f → Keeps (fresh m) (ffresh f)
-keeps_fresh m f k = record {
-  glyphs = k.glyphs;
-  from = k.from;
-  bare = k.bare;
-  lines = part_as m.lines m.used.lines (f.old ++ f.lines) ((f.old ++ f.lines) ++ []) k.lines (sym (append-nil (f.old ++ f.lines)));
-  first = k.lines.many;
-  full = omega (arith, k.lines.many);
-  rows = k.rows;
-  head = k.head;
-  acc = k.acc;
-  blocks = k.blocks;
-}
+keeps_fresh m f k =
+    let p = part_as m.lines m.used.lines (f.old ++ f.lines) ((f.old ++ f.lines) ++ []) k.lines (sym (append-nil (f.old ++ f.lines))) in
+    let n = k.lines.many in
+    search rules
 
 pub keeps_begun : (m : Memory) (f : Flat) (i : Info) → Keeps m f → Fits (begun m i) → Keeps (begun m i) (fbegun f i)
-keeps_begun m f i k h = record {
-  glyphs = k.glyphs;
-  from = k.from;
-  bare = k.bare;
-  lines = k.lines;
-  first = k.first;
-  full = k.full;
-  rows = part_more m.rows m.used.rows (f.gone ++ f.rows) blank_row k.rows h.rows;
-  head = k.rows.many;
-  acc = refl;
-  blocks = k.blocks;
-}
+keeps_begun m f i k h = let p = part_more m.rows m.used.rows (f.gone ++ f.rows) blank_row k.rows h.rows in search rules
 
 pub keeps_entry : (m : Memory) (f : Flat) → Keeps m f → Keeps (act m end_entry) (flat f end_entry)
-keeps_entry m f k = record {
-  glyphs = k.glyphs;
-  from = k.glyphs.many;
-  bare = refl;
-  lines = k.lines;
-  first = k.first;
-  full = k.full;
-  rows = k.rows;
-  head = k.head;
-  acc = ap (λ (a : Grid). grid a.begun a.info (entered a.row a.entries (span m.text.from m.used.glyphs)) (up a.entries)) k.acc
-      ∙ ap (λ s. grid f.acc.begun f.acc.info (entered f.acc.row f.acc.entries s) (up f.acc.entries)) (spans m.text.from m.used.glyphs f.from (length f.glyphs) k.from k.glyphs.many);
-  blocks = k.blocks;
-}
+keeps_entry m f k =
+    let a = ap (λ (a : Grid). grid a.info (entered a.row a.entries (span m.text.from m.used.glyphs)) (up a.entries)) k.acc
+    ∙ ap (λ s. grid f.acc.info (entered f.acc.row f.acc.entries s) (up f.acc.entries)) (spans m.text.from m.used.glyphs f.from (length f.glyphs) k.from k.glyphs.many) in
+    search rules
 
 take-set_in : (xs : List Row) (n i : ℕ) (x : Row) → take n (set xs i x) ≡ set (take n xs) i x
 take-set_in [] zero i x = refl
@@ -169,7 +112,7 @@ take-set_in (y ∷ ys) (suc n) zero x = refl
 take-set_in (y ∷ ys) (suc n) (suc i) x = ap (λ l. y ∷ l) (take-set_in ys n i x)
 
 abbrev renewed : Grid → Grid
-renewed a = grid a.begun a.info blank_row 0
+renewed a = grid a.info blank_row 0
 
 pub keeps_head : (m : Memory) (f : Flat) → Keeps m f → Keeps (act m end_head) (flat f end_head)
 keeps_head m f k =
@@ -177,71 +120,37 @@ keeps_head m f k =
     let r : m.table.row ≡ f.acc.row = ap (λ (a : Grid). a.row) k.acc in
     let s : set (f.gone ++ f.rows) m.table.head m.table.row ≡ f.gone ++ set f.rows 0 f.acc.row =
     set-append_right f.gone f.rows (length f.gone) m.table.head m.table.row refl (omega (arith, k.head)) ∙ (ap (λ i. f.gone ++ set f.rows i m.table.row) z ∙ ap (λ q. f.gone ++ set f.rows 0 q) r) in
-    record {
-      glyphs = k.glyphs;
-      from = k.from;
-      bare = k.bare;
-      lines = k.lines;
-      first = k.first;
-      full = k.full;
-      rows = record {
-        holds = take-set_in m.rows m.used.rows m.table.head m.table.row ∙ (ap (λ l. set l m.table.head m.table.row) k.rows.holds ∙ s);
-        many = k.rows.many ∙ (sym (length-set (f.gone ++ f.rows) m.table.head m.table.row) ∙ ap length s);
-      };
-      head = k.head;
-      acc = ap renewed k.acc;
-      blocks = k.blocks;
-    }
+    let p = take-set_in m.rows m.used.rows m.table.head m.table.row ∙ (ap (λ l. set l m.table.head m.table.row) k.rows.holds ∙ s) in
+    let n = k.rows.many ∙ (sym (length-set (f.gone ++ f.rows) m.table.head m.table.row) ∙ ap length s) in
+    let a = ap renewed k.acc in
+    search rules
 
 pub keeps_row : (m : Memory) (f : Flat) → Keeps m f → Fits (act m end_row) → Keeps (act m end_row) (flat f end_row)
 keeps_row m f k h =
     let r : m.table.row ≡ f.acc.row = ap (λ (a : Grid). a.row) k.acc in
-    record {
-      glyphs = k.glyphs;
-      from = k.from;
-      bare = k.bare;
-      lines = k.lines;
-      first = k.first;
-      full = k.full;
-      rows = part_as (set m.rows m.used.rows m.table.row) (up m.used.rows) ((f.gone ++ f.rows) ++ (m.table.row ∷ [])) (f.gone ++ (f.rows ++ (f.acc.row ∷ [])))
-          (part_more m.rows m.used.rows (f.gone ++ f.rows) m.table.row k.rows h.rows)
-          (append_assoc f.gone f.rows (m.table.row ∷ []) ∙ ap (λ x. f.gone ++ (f.rows ++ (x ∷ []))) r);
-      head = k.head;
-      acc = ap renewed k.acc;
-      blocks = k.blocks;
-    }
+    let p = part_as (set m.rows m.used.rows m.table.row) (up m.used.rows) ((f.gone ++ f.rows) ++ (m.table.row ∷ [])) (f.gone ++ (f.rows ++ (f.acc.row ∷ [])))
+    (part_more m.rows m.used.rows (f.gone ++ f.rows) m.table.row k.rows h.rows)
+    (append_assoc f.gone f.rows (m.table.row ∷ []) ∙ ap (λ x. f.gone ++ (f.rows ++ (x ∷ []))) r) in
+    let a = ap renewed k.acc in
+    search rules
 
 closed-fits : (m : Memory) → Fits (closed m) → Fits m
-closed-fits m h = record { glyphs = h.glyphs; lines = h.lines; rows = h.rows; blocks = h.blocks }
+closed-fits m h = search rules
 
-keeps_closed : (m : Memory) (f : Flat) → Keeps m f → Fits (closed (added m (Table m.table.info (span m.table.head m.used.rows)))) →
-    Keeps (closed (added m (Table m.table.info (span m.table.head m.used.rows)))) (fclosed (fadded f (Table f.acc.info (place (length f.gone) (length f.rows)))))
-keeps_closed m f k h =
+keeps_closed : (m : Memory) (f : Flat) (i : Info) → Keeps m f → Fits (ended (Some i) m) → Keeps (ended (Some i) m) (fended (Some i) f)
+keeps_closed m f i k h =
     let n : m.used.rows - m.table.head ≡ length f.rows = omega (arith, k.rows.many, k.head, length-append f.gone f.rows) in
-    let i : m.table.info ≡ f.acc.info = ap (λ (a : Grid). a.info) k.acc in
-    let b = Table m.table.info (span m.table.head m.used.rows) in
-    let e : b ≡ Table f.acc.info (place (length f.gone) (length f.rows)) =
-    ap (λ l. Table m.table.info (place m.table.head l)) n ∙ (ap (λ o. Table m.table.info (place o (length f.rows))) k.head ∙ ap (λ j. Table j (place (length f.gone) (length f.rows))) i) in
-    let a = keeps_added m f b (Table f.acc.info (place (length f.gone) (length f.rows))) e k (closed-fits (added m b) h) in
-    record {
-      glyphs = a.glyphs;
-      from = a.from;
-      bare = a.bare;
-      lines = a.lines;
-      first = a.first;
-      full = a.full;
-      rows = part_as m.rows m.used.rows (f.gone ++ f.rows) ((f.gone ++ f.rows) ++ []) k.rows (sym (append-nil (f.gone ++ f.rows)));
-      head = k.rows.many;
-      acc = ap (λ (q : Grid). grid false q.info q.row q.entries) k.acc;
-      blocks = a.blocks;
-    }
+    let b = Table i (span m.table.head m.used.rows) in
+    let c = Table i (place (length f.gone) (length f.rows)) in
+    let e : b ≡ c = ap (λ l. Table i (place m.table.head l)) n ∙ ap (λ o. Table i (place o (length f.rows))) k.head in
+    let a = keeps_added m f b c e k (closed-fits (added m b) h) in
+    let p = part_as m.rows m.used.rows (f.gone ++ f.rows) ((f.gone ++ f.rows) ++ []) k.rows (sym (append-nil (f.gone ++ f.rows))) in
+    let g = ap (λ (q : Grid). grid None q.row q.entries) k.acc in
+    search rules
 
-closed_if : (b c : Bool) (m : Memory) (f : Flat) → b ≡ c → Keeps m f → Fits (cond b (closed (added m (Table m.table.info (span m.table.head m.used.rows)))) m) →
-    Keeps (cond b (closed (added m (Table m.table.info (span m.table.head m.used.rows)))) m) (cond c (fclosed (fadded f (Table f.acc.info (place (length f.gone) (length f.rows))))) f)
-closed_if true true m f e k h = keeps_closed m f k h
-closed_if false false m f e k h = k
-closed_if true false m f e k h = let z : ◌≡◌ {A = ℕ} 0 1 = cc in absurd (omega arith)
-closed_if false true m f e k h = let z : ◌≡◌ {A = ℕ} 0 1 = cc in absurd (omega arith)
+keeps_ended : (o : Option Info) (m : Memory) (f : Flat) → Keeps m f → Fits (ended o m) → Keeps (ended o m) (fended o f)
+keeps_ended None m f k h = k
+keeps_ended (Some i) m f k h = keeps_closed m f i k h
 
 pub keeps_table : (m : Memory) (f : Flat) → Keeps m f → Fits (act m end_table) → Keeps (act m end_table) (flat f end_table)
-keeps_table m f k h = closed_if m.table.begun f.acc.begun m f (ap (λ (a : Grid). a.begun) k.acc) k h
+keeps_table m f k h = subst (λ o. Keeps (act m end_table) (fended o f)) (ap (λ (a : Grid). a.info) k.acc) (keeps_ended m.table.info m f k h)

@@ -1,4 +1,4 @@
-use Rattle.std.proofs.Common.{◌≡◌, ℕ, ◌+◌, ◌<◌, ◌≤◌, min, Bool, true, false, cond, ltb, List, [], ◌∷◌, ◌++◌, map, length, drop, set, fold, sym, refl, ap, ◌∙◌, arith}
+use Rattle.std.proofs.Common.{◌≡◌, ℕ, ◌+◌, ◌<◌, ◌≤◌, min, Bool, true, false, cond, ltb, List, [], ◌∷◌, ◌++◌, map, length, drop, set, fold, Option, Some, None, sym, refl, ap, ◌∙◌, arith, rules}
 use Rattle.std.proofs.lemmas.Bool.Decides.{nat_tests}
 use Rattle.std.proofs.lemmas.List.{append_assoc, length-set, take-append-drop}
 use Rattle.glyphs.specs.declared.Glyph.{Glyph}
@@ -8,7 +8,7 @@ use Rattle.records.specs.declared.kinds.Info.{Info}
 use Rattle.records.specs.declared.kinds.Block.{Block}
 use Rattle.records.specs.declared.kinds.Block.TheVariants.{Text, Table}
 use Rattle.records.specs.Acts.{Act, put, end_line, begin_table, end_entry, end_head, end_row, end_table}
-use Rattle.records.specs.Memory.{Memory, act, acted, up, span, blank_row, blank, added, lined, texted, fresh, flushed, begun, closed}
+use Rattle.records.specs.Memory.{Memory, act, acted, up, span, blank_row, blank, added, lined, texted, fresh, flushed, begun, ended}
 use Rattle.blocks.specs.Pieces.{settled}
 use Rattle.blocks.specs.Drafts.{Draft, draw, drawn, clean, flush, finished}
 use Rattle.blocks.specs.Reads.{piece_of, blocks_of, Fits}
@@ -32,10 +32,10 @@ same_back : {X : Type 0} (xs : List X) (n i : ℕ) (x : X) → (n ≤ length (se
 same_back xs n i x h = (omega (arith, length-set xs i x), h.1)
 
 lined_back : (m : Memory) → Fits (lined m) → Fits m
-lined_back m h = record { glyphs = h.glyphs; lines = set_back m.lines m.used.lines m.used.lines (span m.text.from m.used.glyphs) h.lines; rows = h.rows; blocks = h.blocks }
+lined_back m h = let b = set_back m.lines m.used.lines m.used.lines (span m.text.from m.used.glyphs) h.lines in search rules
 
 added_back : (m : Memory) (b : Block) → Fits (added m b) → Fits m
-added_back m b h = record { glyphs = h.glyphs; lines = h.lines; rows = h.rows; blocks = set_back m.blocks m.used.blocks m.used.blocks b h.blocks }
+added_back m b h = let x = set_back m.blocks m.used.blocks m.used.blocks b h.blocks in search rules
 
 if_back : (b : Bool) (m : Memory) (x : Block) → Fits (cond b (added m x) m) → Fits m
 if_back true m x h = added_back m x h
@@ -45,26 +45,26 @@ texted_back : (m : Memory) → Fits (texted m) → Fits m
 texted_back m h = if_back (ltb m.text.first m.text.full) m (Text (span m.text.first m.text.full)) h
 
 fresh_back : (m : Memory) → Fits (fresh m) → Fits m
-fresh_back m h = record { glyphs = h.glyphs; lines = h.lines; rows = h.rows; blocks = h.blocks }
+fresh_back m h = search rules
 
 pub flushed_back : (m : Memory) → Fits (flushed m) → Fits m
 flushed_back m h = lined_back m (texted_back (lined m) (fresh_back (texted (lined m)) h))
 
 begun_back : (m : Memory) (i : Info) → Fits (begun m i) → Fits m
-begun_back m i h = record { glyphs = h.glyphs; lines = h.lines; rows = set_back m.rows m.used.rows m.used.rows blank_row h.rows; blocks = h.blocks }
+begun_back m i h = let b = set_back m.rows m.used.rows m.used.rows blank_row h.rows in search rules
 
-closed_back : (b : Bool) (m : Memory) (x : Block) → Fits (cond b (closed (added m x)) m) → Fits m
-closed_back true m x h = added_back m x (record { glyphs = h.glyphs; lines = h.lines; rows = h.rows; blocks = h.blocks })
-closed_back false m x h = h
+ended_back : (o : Option Info) (m : Memory) → Fits (ended o m) → Fits m
+ended_back None m h = h
+ended_back (Some i) m h = added_back m (Table i (span m.table.head m.used.rows)) (search rules)
 
 fits_back : (m : Memory) (a : Act) → Fits (act m a) → Fits m
-fits_back m (put g) h = record { glyphs = set_back m.glyphs m.used.glyphs m.used.glyphs g h.glyphs; lines = h.lines; rows = h.rows; blocks = h.blocks }
+fits_back m (put g) h = let b = set_back m.glyphs m.used.glyphs m.used.glyphs g h.glyphs in search rules
 fits_back m end_line h = lined_back m h
 fits_back m (begin_table i) h = flushed_back m (begun_back (flushed m) i h)
-fits_back m end_entry h = record { glyphs = h.glyphs; lines = h.lines; rows = h.rows; blocks = h.blocks }
-fits_back m end_head h = record { glyphs = h.glyphs; lines = h.lines; rows = same_back m.rows m.used.rows m.table.head m.table.row h.rows; blocks = h.blocks }
-fits_back m end_row h = record { glyphs = h.glyphs; lines = h.lines; rows = set_back m.rows m.used.rows m.used.rows m.table.row h.rows; blocks = h.blocks }
-fits_back m end_table h = closed_back m.table.begun m (Table m.table.info (span m.table.head m.used.rows)) h
+fits_back m end_entry h = search rules
+fits_back m end_head h = let b = same_back m.rows m.used.rows m.table.head m.table.row h.rows in search rules
+fits_back m end_row h = let b = set_back m.rows m.used.rows m.used.rows m.table.row h.rows in search rules
+fits_back m end_table h = ended_back m.table.info m h
 
 fits_run : (xs : List Act) (m : Memory) → Fits (acted m xs) → Fits m
 fits_run [] m h = h
@@ -116,12 +116,12 @@ shows [] m f d k w h = read (flushed m) (fflushed f) (flush d) (keeps_flushed m 
 shows (a ∷ xs) m f d k w h = shows xs (act m a) (flat f a) (draw d a) (keeps_act m f a k (fits_run xs (act m a) (flushed_back (acted (act m a) xs) h))) (draws_act f d a w) h
 
 abbrev bare_flat : Flat
-bare_flat = record { glyphs = []; from = 0; bare = true; old = []; lines = []; full = 0; gone = []; rows = []; acc = grid false (record { columns = 0; alignments = 0; «open» = false }) blank_row 0; blocks = [] }
+bare_flat = record { glyphs = []; from = 0; bare = true; old = []; lines = []; full = 0; gone = []; rows = []; acc = grid None blank_row 0; blocks = [] }
 
 pub shows_from : (gs : List Glyph) (ls : List Span) (rs : List Row) (xs : List Act) → Fits (flushed (acted (blank gs ls rs) xs)) → blocks_of (flushed (acted (blank gs ls rs) xs)) ≡ finished (drawn clean xs)
 shows_from gs ls rs xs h = shows xs (blank gs ls rs) bare_flat clean
-    (record { glyphs = record { holds = refl; many = refl }; from = refl; bare = refl; lines = record { holds = refl; many = refl }; first = refl; full = refl; rows = record { holds = refl; many = refl }; head = refl; acc = refl; blocks = record { holds = refl; many = refl } })
-    (record { from = omega arith; here = refl; bare = refl; lines = λ x. refl; full = refl; begun = refl; info = refl; row = λ x. refl; entries = refl; rows = λ x. refl; blocks = λ x y z. refl })
+    (search rules)
+    (record { from = omega arith; here = refl; bare = refl; lines = λ x. refl; full = refl; begun = refl; info = λ i e. cc; row = λ x. refl; entries = refl; rows = λ x. refl; blocks = λ x y z. refl })
     h
 
 min_le : (m n k j : ℕ) → m ≡ min 65535 n → n ≤ min k j → j < 65535 → (m ≤ k) × (m < 65535)
@@ -129,7 +129,7 @@ min_le m n k j e h l = (omega arith, omega arith)
 
 pub counted : (gs : List Glyph) (ls : List Span) (rs : List Row) (xs : List Act) → Counts (acted (blank gs ls rs) xs) (fold tally (needs 0 0 0 0) xs) (length gs) (length ls) (length rs) 511
 counted gs ls rs xs = counts_run xs (blank gs ls rs) (needs 0 0 0 0) (length gs) (length ls) (length rs) 511
-    (record { glyphs = refl; lines = refl; rows = refl; tables = refl; glyphs_room = refl; lines_room = refl; rows_room = refl; blocks_room = refl; two = omega arith })
+    (search rules)
 
 within_fits : (gs : List Glyph) (ls : List Span) (rs : List Row) (xs : List Act) → Within (tallied xs) (length gs) (length ls) (length rs) → Fits (flushed (acted (blank gs ls rs) xs))
 within_fits gs ls rs xs w =
@@ -139,12 +139,7 @@ within_fits gs ls rs xs w =
     let g = min_le (flushed m).used.glyphs n.glyphs (length gs) 50000 f.glyphs w.glyphs (omega arith) in
     let l = min_le (flushed m).used.lines (n.lines + 1) (length ls) 4096 f.lines w.lines (omega arith) in
     let r = min_le (flushed m).used.rows n.rows (length rs) 4096 f.rows w.rows (omega arith) in
-    record {
-      glyphs = (omega (arith, g.0, f.glyphs_room), g.1);
-      lines = (omega (arith, l.0, f.lines_room), l.1);
-      rows = (omega (arith, r.0, f.rows_room), r.1);
-      blocks = (omega (arith, f.blocks_room, f.two, w.tables), omega (arith, f.two, w.tables));
-    }
+    search rules
 
 pub memory_shows : MemoryShowsDraft
 memory_shows gs ls rs xs w = shows_from gs ls rs xs (within_fits gs ls rs xs w)

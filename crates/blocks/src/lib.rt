@@ -9,8 +9,6 @@
 ghost use Rattle.blocks.specs.Stands.{MemoryShowsDraft};
 
 // The law that ties the records to the lists.
-pub fn memory_shows_draft() -> u8
+pub fn memory_shows_draft()
     ensures value { MemoryShowsDraft }
-{
-    0
-}
+{}

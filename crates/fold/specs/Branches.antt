@@ -1,5 +1,5 @@
 -- What each event does to the sheet that is being written.
-use Rattle.std.specs.Prelude.{ℕ, Bool, cond, not, ◌&&◌, ◌||◌, List, [], ◌∷◌}
+use Rattle.std.specs.Prelude.{ℕ, Bool, cond, not, ◌||◌, List, [], ◌∷◌}
 use Rattle.style.specs.declared.Style.{Style}
 use Rattle.glyphs.specs.Rulings.{Ruling}
 use Rattle.glyphs.specs.Glyphs.{space, glyph_of}
@@ -12,6 +12,8 @@ use Rattle.events.specs.declared.styles.MarkdownStyles.{MarkdownStyles}
 use Rattle.records.specs.declared.kinds.Info.{Info}
 use Rattle.records.specs.Acts.{Act, put, end_line, begin_table, end_entry, end_head, end_row, end_table}
 use Rattle.fold.specs.declared.mode.Mode.{Mode}
+use Rattle.fold.specs.declared.mode.InItem.{InItem}
+use Rattle.fold.specs.declared.mode.InItem.TheVariants.{No, First, Later}
 use Rattle.fold.specs.declared.mode.Spot.{Spot}
 use Rattle.fold.specs.Parts.{measured, part, spread}
 
@@ -38,12 +40,18 @@ bullet = put (glyph_of (45 ∷ []) 1 gray) ∷ put (space gray) ∷ []
 abbrev pub text_acts : Ruling → MarkdownStyles → Mode → Style → Spot → List ℕ → List Act
 text_acts r y m t p s = cond p.table (cond m.entry (measured r t s) []) (spread (part r (cond m.code y.code_block t) m.code) [] s)
 
+-- What goes before a paragraph: nothing before the first one of an item, which goes behind its "- "; else the line ends, outside items twice.
+abbrev pub apart : InItem → List Act
+apart No = end_line ∷ end_line ∷ []
+apart First = []
+apart Later = end_line ∷ []
+
 -- The start of a tag.
 abbrev pub start_acts : Mode → Spot → Info → Tag → List Act
 start_acts m p i Strong = []
 start_acts m p i Emphasis = []
 start_acts m p i CodeBlock = cond p.bare [] (end_line ∷ end_line ∷ [])
-start_acts m p i Paragraph = cond (m.item && m.first) [] (cond (filled p) (cond m.item (end_line ∷ []) (end_line ∷ end_line ∷ [])) [])
+start_acts m p i Paragraph = cond (filled p) (apart m.item) []
 start_acts m p i Heading = cond (filled p) (end_line ∷ end_line ∷ []) []
 start_acts m p i Item = cond (filled p) (end_line ∷ bullet) bullet
 start_acts m p i tag.List = cond (filled p) (end_line ∷ []) []

@@ -1,5 +1,6 @@
 -- The fold, event by event.
 use Rattle.std.specs.Prelude.{ℕ, Bool, List, [], ◌∷◌, Some, None, fold, Option}
+use Rattle.std.specs.Option.{is_some}
 use Rattle.style.specs.declared.Style.{Style}
 use Rattle.glyphs.specs.Rulings.{Ruling}
 use Rattle.events.specs.declared.event.Event.{Event}
@@ -37,7 +38,7 @@ abbrev pub state_of : Memory → Mode → List Style → State
 state_of m o ss = record { memory = m; mode = o; styles = ss }
 
 abbrev pub spot_of : Memory → Spot
-spot_of m = spot m.text.bare m.text.more m.table.begun
+spot_of m = spot m.text.bare m.text.more (is_some m.table.info)
 
 -- One event, which names the bytes b in the text.
 abbrev pub stepped_by : Ruling → MarkdownStyles → List ℕ → ℕ → State → Event → List ℕ → State

@@ -7,8 +7,10 @@
 
 #![tactic(auto)]
 
+pub mod load;
 mod measure;
 pub mod mode;
 mod perform;
 pub mod step;
 mod table;
+mod tags;

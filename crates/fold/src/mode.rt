@@ -1,10 +1,17 @@
-// Where in the tags the fold is: in a code block, in a list item, in an item before its first
-// paragraph, in a table's entry.
-#[derive(Clone, Copy)]
+// Whether the fold is in a list item, and there before or behind its first paragraph.
+#[derive(Clone, Copy, PartialEq, Eq, Default)]
+pub enum InItem {
+    #[default]
+    No,
+    First,
+    Later,
+}
+
+// Where in the tags the fold is: in a code block, in a list item, in a table's entry.
+#[derive(Clone, Copy, Default)]
 pub struct Mode {
     pub code: bool,
-    pub item: bool,
-    pub first: bool,
+    pub item: InItem,
     pub entry: bool,
 }
 

@@ -1,18 +1,9 @@
-ghost use Rattle.std.specs.Prelude.{◌≡◌, drop};
-ghost use Rattle.blank.specs.Blanks.{is_blank};
+ghost use Rattle.std.specs.Prelude.{◌≡◌};
 ghost use Rattle.fold.specs.Tables.{info_of};
 
 use blank::is_blank;
 use events::event::Event;
 use records::kinds::Info;
-
-// Whether only white space follows in the source; an end past the source counts as its length.
-fn runs_out(source: &[u8], end: usize) -> bool
-    ensures value { result ≡ is_blank (drop end source.now) }
-{
-    let from = end.min(source.len());
-    is_blank(&source[from..])
-}
 
 // What a table is told at its start.
 pub fn info_of(event: Event, source: &[u8]) -> Info
@@ -25,6 +16,7 @@ pub fn info_of(event: Event, source: &[u8]) -> Info
         } else {
             event.alignments
         },
-        open: runs_out(source, event.end as usize),
+        // an end past the source counts as its length
+        open: is_blank(source.get(event.end as usize..).unwrap_or_default()),
     }
 }

@@ -1,4 +1,4 @@
-use Rattle.std.proofs.Common.{◌≡◌, ℕ, zero, suc, ◌+◌, ◌≤◌, Bool, true, false, cond, List, [], ◌∷◌, ◌++◌, map, length, take, set, replicate, fold, refl, ap, ◌∙◌, arith}
+use Rattle.std.proofs.Common.{◌≡◌, ℕ, zero, suc, ◌+◌, ◌≤◌, Bool, true, false, cond, List, [], ◌∷◌, ◌++◌, map, length, take, set, replicate, fold, refl, ap, ◌∙◌, arith, rules}
 use Rattle.std.specs.List.{AllByRecursion as All}
 use Rattle.std.proofs.lemmas.List.{length_push, length-append, length-map, length-replicate, length-take-le}
 use Rattle.records.specs.declared.kinds.Info.{Info}
@@ -6,13 +6,11 @@ use Rattle.records.specs.Acts.{Act, put, end_line, begin_table, end_entry, end_h
 use Rattle.blocks.specs.Pieces.{Line, Piece, text, table, keep, trim, texts, settled, resized}
 use Rattle.blocks.specs.Drafts.{Draft, draft, draw, drawn}
 use Rattle.blocks.specs.Needs.{Needs, tally}
+use Rattle.blocks.proofs.Trims.{trim_le}
+use Rattle.blocks.proofs.Counts.{one}
 use Rattle.laws.specs.Accounts.{glyphs_in, glyphs_over, weigh, account, Even, Solid}
 
-abbrev pub one : Bool → ℕ
-one true = 1
-one false = 0
-
-glyphs_in-push : (ls : List Line) (l : Line) → glyphs_in (ls ++ (l ∷ [])) ≡ glyphs_in ls + length l
+pub glyphs_in-push : (ls : List Line) (l : Line) → glyphs_in (ls ++ (l ∷ [])) ≡ glyphs_in ls + length l
 glyphs_in-push [] l = omega arith
 glyphs_in-push (x ∷ ls) l = omega (arith, glyphs_in-push ls l)
 
@@ -28,10 +26,8 @@ pub record Pushed (ps : List Piece) (p : Piece) : Type 0 where
   pub tables : (account (ps ++ (p ∷ []))).tables ≡ (account ps).tables + (weigh p).tables
 
 pub account-push : (ps : List Piece) (p : Piece) → Pushed ps p
-account-push [] p = record { glyphs = omega arith; lines = omega arith; rows = omega arith; tables = omega arith }
-account-push (q ∷ ps) p =
-    let k = account-push ps p in
-    record { glyphs = omega (arith, k.glyphs); lines = omega (arith, k.lines); rows = omega (arith, k.rows); tables = omega (arith, k.tables) }
+account-push [] p = search rules
+account-push (q ∷ ps) p = let k = account-push ps p in search rules
 
 pub all_push : {X : Type 0} (P : X → Type 0) (xs : List X) (x : X) → All P xs → P x → All P (xs ++ (x ∷ []))
 all_push P [] x a h = (h, tt)
@@ -102,13 +98,8 @@ begin_books n d i k s =
     let a = ap glyphs_over s.1 in
     let c = ap length s.1 in
     let w = ap glyphs_in s.2 in
-    record {
-      glyphs = omega (arith, k.glyphs, p.glyphs);
-      lines = omega (arith, k.lines, p.lines);
-      rows = omega (arith, k.rows, p.rows);
-      tables = omega (arith, k.tables, p.tables);
-      even = all_push Even d.pieces (text (d.lines ++ (d.here ∷ []))) k.even tt;
-    }
+    let e : All Even (d.pieces ++ (text (d.lines ++ (d.here ∷ [])) ∷ [])) = all_push Even d.pieces (text (d.lines ++ (d.here ∷ []))) k.even tt in
+    search rules
 
 closed_books : (n : Needs) (d : Draft) → Books n d → Safe d end_table → Books n (draft (d.pieces ++ (table d.info (map (resized d.info.columns) d.rows) ∷ [])) d.lines d.here false d.info [] d.row)
 closed_books n d k s =
@@ -118,30 +109,25 @@ closed_books n d k s =
     let g = rows_glyphs c d.rows s.3 s.2 in
     let l = length-map d.rows (resized c) in
     let b = ap one s.0 in
-    record {
-      glyphs = omega (arith, k.glyphs, p.glyphs);
-      lines = omega (arith, k.lines, p.lines);
-      rows = omega (arith, k.rows, p.rows);
-      tables = omega (arith, k.tables, p.tables);
-      even = all_push Even d.pieces t k.even (s.1, s.2, rows-even c d.rows s.2);
-    }
+    let e : All Even (d.pieces ++ (t ∷ [])) = all_push Even d.pieces t k.even (s.1, s.2, rows-even c d.rows s.2) in
+    search rules
 
 books_if : (b : Bool) (n : Needs) (x d : Draft) → b ≡ true → Books n x → Books n (cond b x d)
 books_if true n x d e k = k
-books_if false n x d e k = let z : ◌≡◌ {A = ℕ} 0 1 = cc in absurd (omega arith)
+books_if false n x d e k = absurd (cc)
 
 books_act : (n : Needs) (d : Draft) (a : Act) → Books n d → Safe d a → Books (tally n a) (draw d a)
-books_act n d (put g) k s = record { glyphs = omega (arith, k.glyphs, length_push d.here g); lines = k.lines; rows = k.rows; tables = k.tables; even = k.even }
-books_act n d end_line k s = record { glyphs = omega (arith, k.glyphs, glyphs_in-push d.lines d.here); lines = omega (arith, k.lines, length_push d.lines d.here); rows = k.rows; tables = k.tables; even = k.even }
+books_act n d (put g) k s = let h = length_push d.here g in search rules
+books_act n d end_line k s = let g = glyphs_in-push d.lines d.here in let l = length_push d.lines d.here in search rules
 books_act n d (begin_table i) k s = begin_books n d i k s
-books_act n d end_entry k s = record { glyphs = omega (arith, k.glyphs, glyphs_in-push d.row d.here); lines = k.lines; rows = k.rows; tables = k.tables; even = k.even }
+books_act n d end_entry k s = let g = glyphs_in-push d.row d.here in search rules
 books_act n d end_head k s =
     let o = ap glyphs_over s in
     let g : glyphs_over (set d.rows 0 d.row) ≡ glyphs_in d.row + 0 = ap (λ l. glyphs_over (set l 0 d.row)) s in
     let a = ap length s in
     let l : length (set d.rows 0 d.row) ≡ 1 = ap (λ l. length (set l 0 d.row)) s in
-    record { glyphs = omega (arith, k.glyphs); lines = k.lines; rows = omega (arith, k.rows); tables = k.tables; even = k.even }
-books_act n d end_row k s = record { glyphs = omega (arith, k.glyphs, glyphs_over-push d.rows d.row); lines = k.lines; rows = omega (arith, k.rows, length_push d.rows d.row); tables = k.tables; even = k.even }
+    search rules
+books_act n d end_row k s = let g = glyphs_over-push d.rows d.row in let l = length_push d.rows d.row in search rules
 books_act n d end_table k s = books_if d.begun n _ d s.0 (closed_books n d k s)
 
 pub books_run : (xs : List Act) (n : Needs) (d : Draft) → Books n d → SafeRun d xs → Books (fold tally n xs) (drawn d xs)
@@ -157,15 +143,6 @@ keep_glyphs (g ∷ gs) ls = refl
 trim_glyphs : (ls : List Line) → glyphs_in (trim ls) ≡ glyphs_in ls
 trim_glyphs [] = refl
 trim_glyphs (l ∷ ls) = keep_glyphs l (trim ls) ∙ ap (λ n. length l + n) (trim_glyphs ls)
-
-keep_le : (l : Line) (t : List Line) (n : ℕ) → length t ≤ n → length (keep l t) ≤ suc n
-keep_le [] [] n h = omega arith
-keep_le [] (x ∷ xs) n h = omega arith
-keep_le (g ∷ gs) t n h = omega arith
-
-trim_le : (ls : List Line) → length (trim ls) ≤ length ls
-trim_le [] = omega arith
-trim_le (l ∷ ls) = keep_le l (trim ls) (length ls) (trim_le ls)
 
 trim-keep : (l : Line) (t : List Line) → trim t ≡ t → trim (keep l t) ≡ keep l t
 trim-keep [] [] e = refl
@@ -183,13 +160,13 @@ pub record Settles (ps qs : List Piece) : Type 0 where
   pub lines : (account qs).lines ≤ (account ps).lines
 
 settles_text : (ls t : List Line) (ps qs : List Piece) → glyphs_in t ≡ glyphs_in ls → length t ≤ length ls → Settles ps qs → Settles (text ls ∷ ps) (texts t ++ qs)
-settles_text ls [] ps qs g l k = record { glyphs = omega (arith, k.glyphs); rows = omega (arith, k.rows); tables = omega (arith, k.tables); lines = omega (arith, k.lines) }
-settles_text ls (x ∷ t) ps qs g l k = record { glyphs = omega (arith, k.glyphs); rows = omega (arith, k.rows); tables = omega (arith, k.tables); lines = omega (arith, k.lines) }
+settles_text ls [] ps qs g l k = search rules
+settles_text ls (x ∷ t) ps qs g l k = search rules
 
 pub settles : (ps : List Piece) → Settles ps (settled ps)
-settles [] = record { glyphs = refl; rows = refl; tables = refl; lines = omega arith }
+settles [] = search rules
 settles (text ls ∷ ps) = settles_text ls (trim ls) ps (settled ps) (trim_glyphs ls) (trim_le ls) (settles ps)
-settles (table i rs ∷ ps) = let k = settles ps in record { glyphs = omega (arith, k.glyphs); rows = omega (arith, k.rows); tables = omega (arith, k.tables); lines = omega (arith, k.lines) }
+settles (table i rs ∷ ps) = let k = settles ps in search rules
 
 solid_text : (t : List Line) (qs : List Piece) → trim t ≡ t → All Solid qs → All Solid (texts t ++ qs)
 solid_text [] qs e a = a

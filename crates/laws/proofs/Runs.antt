@@ -1,7 +1,7 @@
-use Rattle.std.proofs.Common.{◌≡◌, ℕ, ◌+◌, ◌-◌, ◌<◌, ◌≤◌, max, Bool, true, false, cond, ◌&&◌, ◌||◌, eqb, ltb, leb, ◌⊎◌, List, [], ◌∷◌, ◌++◌, length, Some, None, Ok, Err, fold, Option, Result, sym, refl, ap, ◌∙◌, subst, inl, inr, arith}
+use Rattle.std.proofs.Common.{◌≡◌, ℕ, ◌+◌, ◌-◌, ◌≤◌, max, Bool, true, false, cond, ◌&&◌, ◌||◌, eqb, ltb, ◌⊎◌, List, [], ◌∷◌, ◌++◌, length, Some, None, Ok, Err, fold, Option, Result, sym, refl, ap, ◌∙◌, subst, inl, inr, arith, rules}
 use Rattle.std.specs.List.{AllByRecursion as All}
-use Rattle.std.proofs.lemmas.Bool.Decides.{nat_tests}
-use Rattle.std.proofs.lemmas.Bool.{and_parts}
+use Rattle.std.proofs.lemmas.Bool.{and_parts, leb-true, ltb-true}
+use Rattle.std.proofs.lemmas.List.Sums.{fold-append}
 use Rattle.std.proofs.lemmas.List.{length_push}
 use Rattle.style.specs.declared.Style.{Style}
 use Rattle.glyphs.specs.Rulings.{Ruling}
@@ -22,22 +22,25 @@ use Rattle.checks.specs.declared.marks.Mark.{Mark}
 use Rattle.checks.specs.Marks.{place_in, is_a, plain, takes_entry, headed, rowed, entered, closed, planned, allowed, applied}
 use Rattle.checks.specs.Marks as marks
 use Rattle.checks.specs.Checks.{formed, marked_by, marked, judged_by, judged, and_then, checked_from, checked}
-use Rattle.records.specs.Acts.{Act, put, end_line, begin_table, end_entry, end_head, end_row, end_table}
+use Rattle.records.specs.Acts.{Act, put, end_line}
 use Rattle.blocks.specs.Pieces.{Piece, text, settled}
 use Rattle.blocks.specs.Drafts.{Draft}
 use Rattle.blocks.specs.Needs.{Needs, needs, tally}
+use Rattle.blocks.proofs.Counts.{one, same_needs}
 use Rattle.fold.specs.declared.mode.Mode.{Mode}
+use Rattle.fold.specs.declared.mode.InItem.{InItem}
+use Rattle.fold.specs.declared.mode.InItem.TheVariants.{No, First, Later}
 use Rattle.fold.specs.declared.mode.Spot.{Spot}
 use Rattle.fold.specs.Parts.{puts, measured, part, spread}
 use Rattle.fold.specs.Tables.{info_of}
-use Rattle.fold.specs.Branches.{bullet, filled, text_acts, start_acts, end_acts, acts}
+use Rattle.fold.specs.Branches.{bullet, filled, apart, text_acts, start_acts, end_acts, acts}
 use Rattle.fold.specs.Inks.{in_force}
 use Rattle.fold.specs.Steps.{or_other}
 use Rattle.glyphs.specs.Glyphs.{sanitized}
 use Rattle.parse.specs.Sketches.{Sketch, spot_in, doings, sketched, unwritten, written, programmed, none}
 use Rattle.laws.specs.Accounts.{glyphs_in, glyphs_over, Even, Solid}
 use Rattle.laws.specs.Stands.{stretches, CountsItsBlocks, RowsAreEven, TextsAreSolid}
-use Rattle.laws.proofs.Books.{Books, books_run, account-push, all_push, even-settled, solid, one}
+use Rattle.laws.proofs.Books.{Books, books_run, account-push, glyphs_in-push, all_push, even-settled, solid}
 use Rattle.laws.proofs.Zones.{idle, zone, Sound, core_of, Held, Onward, mark, top_place, open_step, outside_step, enter_step, close_step, tag_is, table_step, head_step, row_step, entry_step, AllCalm, calm_onward, plain_step, end_table_lem, end_head_lem, end_row_lem, end_entry_lem}
 
 calm_puts : (gs : List Glyph) → AllCalm (puts gs)
@@ -52,11 +55,7 @@ calm_append : (xs ys : List Act) → AllCalm xs → AllCalm ys → AllCalm (xs +
 calm_append [] ys a c = c
 calm_append (put g ∷ xs) ys a c = calm_append xs ys a c
 calm_append (end_line ∷ xs) ys a c = calm_append xs ys a c
-calm_append (begin_table i ∷ xs) ys a c = absurd a
-calm_append (end_entry ∷ xs) ys a c = absurd a
-calm_append (end_head ∷ xs) ys a c = absurd a
-calm_append (end_row ∷ xs) ys a c = absurd a
-calm_append (end_table ∷ xs) ys a c = absurd a
+calm_append (_ ∷ xs) ys a c = absurd a
 
 calm_part : (r : Ruling) (t : Style) (code : Bool) (s : List ℕ) → AllCalm (part r t code s)
 calm_part r t code [] = tt
@@ -75,30 +74,29 @@ calm_text r y m t p s =
     calm_into p.table m.entry (measured r t s) (spread (part r (cond m.code y.code_block t) m.code) [] s)
     (calm_puts (sanitized r t s)) (calm_spread (part r (cond m.code y.code_block t) m.code) (calm_part r (cond m.code y.code_block t) m.code) [] s)
 
-leb-true : (a b : ℕ) → leb a b ≡ true → a ≤ b
-leb-true a b e = grind (arith, nat_tests)
-
-ltb-true : (a b : ℕ) → ltb a b ≡ true → a < b
-ltb-true a b e = grind (arith, nat_tests)
+calm_apart : (i : InItem) → AllCalm (apart i)
+calm_apart No = tt
+calm_apart First = tt
+calm_apart Later = tt
 
 or_either : (a b : Bool) → (a || b) ≡ true → (a ≡ true) ⊎ (b ≡ true)
 or_either true b e = inl refl
 or_either false b e = inr e
 
 start_head : (ms : List Mark) (d : Draft) → Sound ms → Held (zone ms) (core_of d) → allowed 64 ms (headed (topped ms)) ≡ true → Onward (applied 64 ms (headed (topped ms))) d []
-start_head [] d s h e = let z : ◌≡◌ {A = ℕ} 0 1 = cc in absurd (omega arith)
+start_head [] d s h e = absurd (cc)
 start_head (m ∷ ms) d s h e =
     enter_step (is_a tag.Table m && m.fresh) (m ∷ ms) (mark m.tag m.place m.entries false) (mark tag.TableHead m.place m.entries false) d [] e
     (λ q. let p = and_parts (is_a tag.Table m) m.fresh q in head_step m ms d (tag_is m tag.Table p.0) p.1 s h)
 
 start_row : (ms : List Mark) (d : Draft) → Sound ms → Held (zone ms) (core_of d) → allowed 64 ms (rowed (topped ms)) ≡ true → Onward (applied 64 ms (rowed (topped ms))) d []
-start_row [] d s h e = let z : ◌≡◌ {A = ℕ} 0 1 = cc in absurd (omega arith)
+start_row [] d s h e = absurd (cc)
 start_row (m ∷ ms) d s h e =
     enter_step (is_a tag.Table m) (m ∷ ms) (mark m.tag m.place m.entries false) (mark tag.TableRow m.place m.entries false) d [] e
     (λ q. row_step m ms d (tag_is m tag.Table q) s h)
 
 start_entry : (ms : List Mark) (d : Draft) → Sound ms → Held (zone ms) (core_of d) → allowed 64 ms (entered (topped ms)) ≡ true → Onward (applied 64 ms (entered (topped ms))) d []
-start_entry [] d s h e = let z : ◌≡◌ {A = ℕ} 0 1 = cc in absurd (omega arith)
+start_entry [] d s h e = absurd (cc)
 start_entry (m ∷ ms) d s h e =
     enter_step (takes_entry m) (m ∷ ms) (mark m.tag m.place (m.entries - 1) m.fresh) (mark tag.TableCell place.Entry 0 false) d [] e
     (λ q. let p = and_parts (is_a tag.TableHead m || is_a tag.TableRow m) (ltb 0 m.entries) q in
@@ -113,7 +111,7 @@ start_step mode o e size ms d tag.CodeBlock s h f a =
     outside_step (place_in (topped ms)) ms (plain place.Prose tag.CodeBlock) d _ a (λ p. plain_step ms (plain place.Prose tag.CodeBlock) d _ refl tt (sym p ∙ top_place ms s) s h (calm_if (spot_in d).bare [] (end_line ∷ end_line ∷ []) tt tt))
 start_step mode o e size ms d tag.Paragraph s h f a =
     outside_step (place_in (topped ms)) ms (plain place.Prose tag.Paragraph) d _ a (λ p. plain_step ms (plain place.Prose tag.Paragraph) d _ refl tt (sym p ∙ top_place ms s) s h
-    (calm_if (mode.item && mode.first) [] _ tt (calm_if (filled (spot_in d)) _ [] (calm_if mode.item (end_line ∷ []) (end_line ∷ end_line ∷ []) tt tt) tt)))
+    (calm_if (filled (spot_in d)) (apart mode.item) [] (calm_apart mode.item) tt))
 start_step mode o e size ms d tag.Heading s h f a =
     outside_step (place_in (topped ms)) ms (plain place.Prose tag.Heading) d _ a (λ p. plain_step ms (plain place.Prose tag.Heading) d _ refl tt (sym p ∙ top_place ms s) s h (calm_if (filled (spot_in d)) (end_line ∷ end_line ∷ []) [] tt tt))
 start_step mode o e size ms d tag.Item s h f a =
@@ -146,7 +144,7 @@ end_by t m ms d e s h =
     subst P (sym e) (λ s h. end_direct t m.place m.entries m.fresh ms d s h) s h
 
 end_step : (t : Tag) (ms : List Mark) (d : Draft) → Sound ms → Held (zone ms) (core_of d) → allowed 64 ms (closed (topped ms) t) ≡ true → Onward (applied 64 ms (closed (topped ms) t)) d (end_acts (spot_in d) t)
-end_step t [] d s h e = let z : ◌≡◌ {A = ℕ} 0 1 = cc in absurd (omega arith)
+end_step t [] d s h e = absurd (cc)
 end_step t (m ∷ ms) d s h e = close_step (is_a t m) m ms d (end_acts (spot_in d) t) e (λ q. end_by t m ms d (tag_is m t q) s h)
 
 kind_step : (r : Ruling) (y : MarkdownStyles) (mode : Mode) (st : Style) (o : List ℕ) (e : Event) (b : List ℕ) (size : ℕ) (ms : List Mark) (d : Draft) (k : Kind) → Sound ms → Held (zone ms) (core_of d) → formed size e k ≡ true → allowed 64 ms (planned (topped ms) k e.columns) ≡ true →
@@ -161,11 +159,11 @@ kind_step r y mode st o e b size ms d Other s h f a = calm_onward ms d [] s h tt
 
 cond_ok : (b : Bool) (p : Result (Unit {0}) Refusal) (x : Refusal) → cond b p (Err x) ≡ Ok tt → (b ≡ true) × (p ≡ Ok tt)
 cond_ok true p x e = (refl, e)
-cond_ok false p x e = let z : ◌≡◌ {A = ℕ} 0 1 = cc in absurd (omega arith)
+cond_ok false p x e = absurd (cc)
 
 event_step : (r : Ruling) (y : MarkdownStyles) (mode : Mode) (st : Style) (t o : List ℕ) (e : Event) (i : ℕ) (ms : List Mark) (d : Draft) (k : Option Kind) → Sound ms → Held (zone ms) (core_of d) → judged_by r.admits t 64 ms i e k ≡ Ok tt →
     Onward (marked_by 64 ms e.columns k) d (acts r y mode st (spot_in d) (info_of e o) (or_other k) (bytes_of t e))
-event_step r y mode st t o e i ms d None s h q = let z : ◌≡◌ {A = ℕ} 0 1 = cc in absurd (omega arith)
+event_step r y mode st t o e i ms d None s h q = absurd (cc)
 event_step r y mode st t o e i ms d (Some k) s h q =
     let f = cond_ok (formed (length t) e k) _ _ q in
     let a = cond_ok (allowed 64 ms (planned (topped ms) k e.columns)) _ _ f.1 in
@@ -173,34 +171,23 @@ event_step r y mode st t o e i ms d (Some k) s h q =
 
 then_parts : (p q : Result (Unit {0}) Refusal) → and_then p q ≡ Ok tt → (p ≡ Ok tt) × (q ≡ Ok tt)
 then_parts (Ok u) q e = (refl, e)
-then_parts (Err x) q e = let z : ◌≡◌ {A = ℕ} 0 1 = cc in absurd (omega arith)
-
-tally-append : (n : Needs) (xs ys : List Act) → fold tally n (xs ++ ys) ≡ fold tally (fold tally n xs) ys
-tally-append n [] ys = refl
-tally-append n (x ∷ xs) ys = tally-append (tally n x) xs ys
+then_parts (Err x) q e = absurd (cc)
 
 -- after all events the books are right, and no table is open
 run : (r : Ruling) (y : MarkdownStyles) (t o : List ℕ) (es : List Event) (i : ℕ) (ms : List Mark) (s : Sketch) (n : Needs) → Sound ms → Held (zone ms) (core_of s.draft) → Books n s.draft → checked_from r.admits t i ms es ≡ Ok tt →
     Books (fold tally n (programmed r y t o s es)) (fold (sketched r y t o) s es).draft × Held idle (core_of (fold (sketched r y t o) s es).draft)
 run r y t o [] i [] s n a h b e = (b, h)
-run r y t o [] i (m ∷ ms) s n a h b e = let z : ◌≡◌ {A = ℕ} 0 1 = cc in absurd (omega arith)
+run r y t o [] i (m ∷ ms) s n a h b e = absurd (cc)
 run r y t o (v ∷ es) i ms s n a h b e =
     let q = then_parts (judged r.admits t 64 ms i v) (checked_from r.admits t (i + 1) (marked 64 ms v) es) e in
     let D = doings r y t o s v in
     let k = event_step r y s.mode (in_force y s.styles) t o v i ms s.draft (kind_of v.kind) a h q.0 in
     let w = run r y t o es (i + 1) (marked 64 ms v) (sketched r y t o s v) (fold tally n D) k.sound k.held (books_run D n s.draft b k.safe) q.1 in
-    (subst (λ (x : Needs). Books x (fold (sketched r y t o) (sketched r y t o s v) es).draft) (sym (tally-append n D (programmed r y t o (sketched r y t o s v) es))) w.0, w.1)
+    (subst (λ (x : Needs). Books x (fold (sketched r y t o) (sketched r y t o s v) es).draft) (sym (fold-append tally n D (programmed r y t o (sketched r y t o s v) es))) w.0, w.1)
 
 whole : (r : Ruling) (y : MarkdownStyles) (t o : List ℕ) (es : List Event) → checked r.admits t es ≡ Ok tt →
     Books (fold tally (needs 0 0 0 0) (programmed r y t o (unwritten y) es)) (written r y t o es).draft × Held idle (core_of (written r y t o es).draft)
-whole r y t o es e = run r y t o es 0 [] (unwritten y) (needs 0 0 0 0) tt (refl, refl, refl) (record { glyphs = refl; lines = refl; rows = refl; tables = refl; even = tt }) e
-
-same_needs : (g l r t a b c d : ℕ) → g ≡ a → l ≡ b → r ≡ c → t ≡ d → needs g l r t ≡ needs a b c d
-same_needs g l r t a b c d p q u v = rw (p, q, u, v) refl
-
-glyphs_in-push : (ls : List (List Glyph)) (l : List Glyph) → glyphs_in (ls ++ (l ∷ [])) ≡ glyphs_in ls + length l
-glyphs_in-push [] l = omega arith
-glyphs_in-push (x ∷ ls) l = omega (arith, glyphs_in-push ls l)
+whole r y t o es e = run r y t o es 0 [] (unwritten y) (needs 0 0 0 0) tt (refl, refl, refl) (search rules) e
 
 pub counts_its_blocks : CountsItsBlocks
 counts_its_blocks r y t o es e =

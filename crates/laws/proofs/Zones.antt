@@ -28,44 +28,24 @@ pub data Zone : Type 0 where
   lost : Zone
 
 abbrev in_head : ℕ → Zone → Zone
-in_head k idle = lost
 in_head k (grid n f) = head n k
-in_head k (head n j) = lost
-in_head k (body n j) = lost
-in_head k (head_entry n j) = lost
-in_head k (body_entry n j) = lost
-in_head k lost = lost
+in_head k _ = lost
 
 abbrev in_body : ℕ → Zone → Zone
-in_body k idle = lost
 in_body k (grid n f) = body n k
-in_body k (head n j) = lost
-in_body k (body n j) = lost
-in_body k (head_entry n j) = lost
-in_body k (body_entry n j) = lost
-in_body k lost = lost
+in_body k _ = lost
 
 abbrev in_entry : Zone → Zone
-in_entry idle = lost
-in_entry (grid n f) = lost
 in_entry (head n j) = head_entry n j
 in_entry (body n j) = body_entry n j
-in_entry (head_entry n j) = lost
-in_entry (body_entry n j) = lost
-in_entry lost = lost
+in_entry _ = lost
 
 abbrev zone_by : Tag → ℕ → Bool → Zone → Zone
-zone_by tag.Strong n f z = z
-zone_by tag.Emphasis n f z = z
-zone_by tag.CodeBlock n f z = z
-zone_by tag.Paragraph n f z = z
-zone_by tag.Heading n f z = z
-zone_by tag.Item n f z = z
-zone_by tag.List n f z = z
 zone_by tag.Table n f z = grid n f
 zone_by tag.TableHead n f z = in_head n z
 zone_by tag.TableRow n f z = in_body n z
 zone_by tag.TableCell n f z = in_entry z
+zone_by _ n f z = z
 
 abbrev pub zone : List Mark → Zone
 zone [] = idle
@@ -82,17 +62,11 @@ place_of lost = place.Table
 
 -- what a mark stands on
 abbrev over : Tag → Zone → Type 0
-over tag.Strong z = Unit {0}
-over tag.Emphasis z = Unit {0}
-over tag.CodeBlock z = Unit {0}
-over tag.Paragraph z = Unit {0}
-over tag.Heading z = Unit {0}
-over tag.Item z = Unit {0}
-over tag.List z = Unit {0}
 over tag.Table z = z ≡ idle
 over tag.TableHead z = (n : ℕ) × (z ≡ grid n false)
 over tag.TableRow z = (n : ℕ) × (z ≡ grid n false)
 over tag.TableCell z = ((n : ℕ) × (k : ℕ) × (z ≡ head n k)) ⊎ ((n : ℕ) × (k : ℕ) × (z ≡ body n k))
+over _ z = Unit {0}
 
 abbrev pub Sound : List Mark → Type 0
 Sound [] = Unit {0}
@@ -111,19 +85,19 @@ core b i rs r = record { begun = b; info = i; rows = rs; row = r }
 abbrev pub core_of : Draft → Core
 core_of d = core d.begun d.info d.rows d.row
 
-pub record Grid (n : ℕ) (c : Core) : Type 0 where
-  pub begun : c.begun ≡ true
-  pub columns : c.info.columns ≡ n
+pub record Grid (n : ℕ) (b : Bool) (i : Info) : Type 0 where
+  pub begun : b ≡ true
+  pub columns : i.columns ≡ n
   pub some : 1 ≤ n
   pub few : n ≤ 32
 
 abbrev pub Held : Zone → Core → Type 0
 Held idle c = (c.begun ≡ false) × (c.rows ≡ []) × (c.row ≡ [])
-Held (grid n f) c = Grid n c × All (λ r. length r ≤ n) c.rows × (f ≡ true → c.rows ≡ [] ∷ []) × (c.row ≡ [])
-Held (head n k) c = Grid n c × (c.rows ≡ [] ∷ []) × (length c.row + k ≤ n)
-Held (body n k) c = Grid n c × All (λ r. length r ≤ n) c.rows × (length c.row + k ≤ n)
-Held (head_entry n k) c = Grid n c × (c.rows ≡ [] ∷ []) × (length c.row + k + 1 ≤ n)
-Held (body_entry n k) c = Grid n c × All (λ r. length r ≤ n) c.rows × (length c.row + k + 1 ≤ n)
+Held (grid n f) c = Grid n c.begun c.info × All (λ r. length r ≤ n) c.rows × (f ≡ true → c.rows ≡ [] ∷ []) × (c.row ≡ [])
+Held (head n k) c = Grid n c.begun c.info × (c.rows ≡ [] ∷ []) × (length c.row + k ≤ n)
+Held (body n k) c = Grid n c.begun c.info × All (λ r. length r ≤ n) c.rows × (length c.row + k ≤ n)
+Held (head_entry n k) c = Grid n c.begun c.info × (c.rows ≡ [] ∷ []) × (length c.row + k + 1 ≤ n)
+Held (body_entry n k) c = Grid n c.begun c.info × All (λ r. length r ≤ n) c.rows × (length c.row + k + 1 ≤ n)
 Held lost c = ⊥
 
 -- acts after which the marks and the draft still agree, and that lose nothing
@@ -138,32 +112,28 @@ top_place (m ∷ ms) s = s.0
 
 prose_idle : (z : Zone) (c : Core) → Held z c → place_of z ≡ place.Prose → z ≡ idle
 prose_idle idle c h e = refl
-prose_idle (grid n f) c h e = let z : ◌≡◌ {A = ℕ} 0 1 = cc in absurd (omega arith)
-prose_idle (head n k) c h e = let z : ◌≡◌ {A = ℕ} 0 1 = cc in absurd (omega arith)
-prose_idle (body n k) c h e = let z : ◌≡◌ {A = ℕ} 0 1 = cc in absurd (omega arith)
-prose_idle (head_entry n k) c h e = let z : ◌≡◌ {A = ℕ} 0 1 = cc in absurd (omega arith)
-prose_idle (body_entry n k) c h e = let z : ◌≡◌ {A = ℕ} 0 1 = cc in absurd (omega arith)
 prose_idle lost c h e = absurd h
+prose_idle _ c h e = absurd (cc)
 
 push_if : (b : Bool) (ms : List Mark) (m : Mark) (d : Draft) (xs : List Act) → b ≡ true → Onward (m ∷ ms) d xs → Onward (cond b (m ∷ ms) ms) d xs
 push_if true ms m d xs e o = o
-push_if false ms m d xs e o = let z : ◌≡◌ {A = ℕ} 0 1 = cc in absurd (omega arith)
+push_if false ms m d xs e o = absurd (cc)
 
 pub open_step : (ms : List Mark) (m : Mark) (d : Draft) (xs : List Act) → allowed 64 ms (Some (Open m)) ≡ true → Onward (m ∷ ms) d xs → Onward (applied 64 ms (Some (Open m))) d xs
 open_step ms m d xs e o = push_if (ltb (length ms) 64) ms m d xs e o
 
 pub outside_step : (p : Place) (ms : List Mark) (m : Mark) (d : Draft) (xs : List Act) → allowed 64 ms (outside p m) ≡ true → (p ≡ place.Prose → Onward (m ∷ ms) d xs) → Onward (applied 64 ms (outside p m)) d xs
 outside_step place.Prose ms m d xs e o = open_step ms m d xs e (o refl)
-outside_step place.Table ms m d xs e o = let z : ◌≡◌ {A = ℕ} 0 1 = cc in absurd (omega arith)
-outside_step place.Entry ms m d xs e o = let z : ◌≡◌ {A = ℕ} 0 1 = cc in absurd (omega arith)
+outside_step place.Table ms m d xs e o = absurd (cc)
+outside_step place.Entry ms m d xs e o = absurd (cc)
 
 pub enter_step : (c : Bool) (ms : List Mark) (x y : Mark) (d : Draft) (xs : List Act) → allowed 64 ms (cond c (Some (Enter x y)) None) ≡ true → (c ≡ true → Onward (y ∷ replaced ms x) d xs) → Onward (applied 64 ms (cond c (Some (Enter x y)) None)) d xs
 enter_step true ms x y d xs e o = push_if (ltb (length (replaced ms x)) 64) (replaced ms x) y d xs e (o refl)
-enter_step false ms x y d xs e o = let z : ◌≡◌ {A = ℕ} 0 1 = cc in absurd (omega arith)
+enter_step false ms x y d xs e o = absurd (cc)
 
 pub close_step : (c : Bool) (m : Mark) (ms : List Mark) (d : Draft) (xs : List Act) → allowed 64 (m ∷ ms) (cond c (Some Close) None) ≡ true → (c ≡ true → Onward ms d xs) → Onward (applied 64 (m ∷ ms) (cond c (Some Close) None)) d xs
 close_step true m ms d xs e o = o refl
-close_step false m ms d xs e o = let z : ◌≡◌ {A = ℕ} 0 1 = cc in absurd (omega arith)
+close_step false m ms d xs e o = absurd (cc)
 
 -- a tag is known by its number
 tag_back : (t : Tag) → tag_of (start_of t) ≡ Some t
@@ -272,31 +242,19 @@ abbrev pub AllCalm : List Act → Type 0
 AllCalm [] = Unit {0}
 AllCalm (put g ∷ xs) = AllCalm xs
 AllCalm (end_line ∷ xs) = AllCalm xs
-AllCalm (begin_table i ∷ xs) = ⊥
-AllCalm (end_entry ∷ xs) = ⊥
-AllCalm (end_head ∷ xs) = ⊥
-AllCalm (end_row ∷ xs) = ⊥
-AllCalm (end_table ∷ xs) = ⊥
+AllCalm (_ ∷ xs) = ⊥
 
 calm_safe : (xs : List Act) (d : Draft) → AllCalm xs → SafeRun d xs
 calm_safe [] d a = tt
 calm_safe (put g ∷ xs) d a = (tt, calm_safe xs (draw d (put g)) a)
 calm_safe (end_line ∷ xs) d a = (tt, calm_safe xs (draw d end_line) a)
-calm_safe (begin_table i ∷ xs) d a = absurd a
-calm_safe (end_entry ∷ xs) d a = absurd a
-calm_safe (end_head ∷ xs) d a = absurd a
-calm_safe (end_row ∷ xs) d a = absurd a
-calm_safe (end_table ∷ xs) d a = absurd a
+calm_safe (_ ∷ xs) d a = absurd a
 
 calm_held : (xs : List Act) (d : Draft) (z : Zone) → AllCalm xs → Held z (core_of d) → Held z (core_of (drawn d xs))
 calm_held [] d z a h = h
 calm_held (put g ∷ xs) d z a h = calm_held xs (draw d (put g)) z a h
 calm_held (end_line ∷ xs) d z a h = calm_held xs (draw d end_line) z a h
-calm_held (begin_table i ∷ xs) d z a h = absurd a
-calm_held (end_entry ∷ xs) d z a h = absurd a
-calm_held (end_head ∷ xs) d z a h = absurd a
-calm_held (end_row ∷ xs) d z a h = absurd a
-calm_held (end_table ∷ xs) d z a h = absurd a
+calm_held (_ ∷ xs) d z a h = absurd a
 
 pub calm_onward : (ms : List Mark) (d : Draft) (xs : List Act) → Sound ms → Held (zone ms) (core_of d) → AllCalm xs → Onward ms d xs
 calm_onward ms d xs s h a = record { sound = s; held = calm_held xs d (zone ms) a h; safe = calm_safe xs d a }
@@ -307,11 +265,11 @@ plain_step ms m d xs z o p s h a = calm_onward (m ∷ ms) d xs (p ∙ ap place_o
 
 if_step : (b : Bool) (ms : List Mark) (d : Draft) (xs : List Act) → b ≡ true → Onward ms d xs → Onward ms d (cond b xs [])
 if_step true ms d xs e o = o
-if_step false ms d xs e o = let z : ◌≡◌ {A = ℕ} 0 1 = cc in absurd (omega arith)
+if_step false ms d xs e o = absurd (cc)
 
 closed-held : (b : Bool) (x d : Draft) → b ≡ true → Held idle (core_of x) → Held idle (core_of (cond b x d))
 closed-held true x d e h = h
-closed-held false x d e h = let z : ◌≡◌ {A = ℕ} 0 1 = cc in absurd (omega arith)
+closed-held false x d e h = absurd (cc)
 
 pub end_table_lem : (p : Place) (n : ℕ) (f : Bool) (ms : List Mark) (d : Draft) → Sound (mark tag.Table p n f ∷ ms) → Held (grid n f) (core_of d) → Onward ms d (end_table ∷ [])
 end_table_lem p n f ms d s h =
@@ -331,9 +289,9 @@ end_head_lem p k f ms d s h =
     if_step d.begun ms d (end_head ∷ []) g.begun (record {
       sound = s.2;
       held = subst (λ x. Held x (core_of (draw d end_head))) (sym z) (
-        record { begun = g.begun; columns = g.columns; some = g.some; few = g.few },
+        g,
         subst (λ l. All (λ r. length r ≤ n) (set l 0 d.row)) (sym c.1) (omega (arith, c.2), tt),
-        (λ q. let y : ◌≡◌ {A = ℕ} 0 1 = cc in absurd (omega arith)),
+        (λ q. absurd (cc)),
         refl,
       );
       safe = (c.1, tt);
@@ -348,9 +306,9 @@ end_row_lem p k f ms d s h =
     if_step d.begun ms d (end_row ∷ []) g.begun (record {
       sound = s.2;
       held = subst (λ x. Held x (core_of (draw d end_row))) (sym z) (
-        record { begun = g.begun; columns = g.columns; some = g.some; few = g.few },
+        g,
         all_push (λ r. length r ≤ n) d.rows d.row c.1 (omega (arith, c.2)),
-        (λ q. let y : ◌≡◌ {A = ℕ} 0 1 = cc in absurd (omega arith)),
+        (λ q. absurd (cc)),
         refl,
       );
       safe = (tt, tt);
@@ -364,14 +322,14 @@ end_entry_lem p k f ms d s h =
           let g = c.0 in
           if_step d.begun ms d (end_entry ∷ []) g.begun (record {
             sound = s.2;
-            held = subst (λ x. Held x (core_of (draw d end_entry))) (sym q.2) (record { begun = g.begun; columns = g.columns; some = g.some; few = g.few }, c.1, omega (arith, c.2));
+            held = subst (λ x. Held x (core_of (draw d end_entry))) (sym q.2) (g, c.1, omega (arith, c.2));
             safe = (tt, tt);
           }))
       | inr q ↦ (let c : Held (body_entry q.0 q.1) (core_of d) = subst (λ x. Held (in_entry x) (core_of d)) q.2 h in
           let g = c.0 in
           if_step d.begun ms d (end_entry ∷ []) g.begun (record {
             sound = s.2;
-            held = subst (λ x. Held x (core_of (draw d end_entry))) (sym q.2) (record { begun = g.begun; columns = g.columns; some = g.some; few = g.few }, c.1, omega (arith, c.2));
+            held = subst (λ x. Held x (core_of (draw d end_entry))) (sym q.2) (g, c.1, omega (arith, c.2));
             safe = (tt, tt);
           }))
     ]

@@ -9,26 +9,9 @@
 
 ghost use Rattle.laws.specs.Stands.{CountsItsBlocks, SettlingLosesEmptyLines, RowsAreEven, TextsAreSolid};
 
-pub fn counts_its_blocks() -> u8
-    ensures value { CountsItsBlocks }
-{
-    0
-}
-
-pub fn settling_loses_empty_lines() -> u8
-    ensures value { SettlingLosesEmptyLines }
-{
-    0
-}
-
-pub fn rows_are_even() -> u8
-    ensures value { RowsAreEven }
-{
-    0
-}
-
-pub fn texts_are_solid() -> u8
-    ensures value { TextsAreSolid }
-{
-    0
-}
+pub fn load_laws()
+    ensures counts { CountsItsBlocks }
+    ensures settling { SettlingLosesEmptyLines }
+    ensures even { RowsAreEven }
+    ensures solid { TextsAreSolid }
+{}

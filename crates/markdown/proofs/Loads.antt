@@ -1,4 +1,5 @@
 use Rattle.std.proofs.Common.{◌≡◌, ℕ, ◌<◌, ◌≤◌, min, Bool, true, false, cond, eqb, leb, List, [], ◌∷◌, length, Ok, Err, Result, refl, ap, ◌∙◌, arith}
+use Rattle.std.proofs.lemmas.Bool.{leb-true}
 use Rattle.std.proofs.lemmas.Bool.Decides.{nat_tests}
 use Rattle.glyphs.specs.declared.Glyph.{Glyph}
 use Rattle.glyphs.specs.Rulings.{Ruling}
@@ -13,7 +14,8 @@ use Rattle.records.specs.declared.kinds.Span.{Span}
 use Rattle.records.specs.declared.kinds.Row.{Row}
 use Rattle.records.specs.declared.kinds.Used.{Used}
 use Rattle.records.specs.Memory.{Memory}
-use Rattle.blocks.specs.Needs.{Needs, needs}
+use Rattle.blocks.specs.Needs.{Needs}
+use Rattle.blocks.proofs.Counts.{same_needs}
 use Rattle.blocks.specs.Reads.{blocks_of}
 use Rattle.blocks.specs.Stands.{Within}
 use Rattle.parse.specs.Sketches.{parsed, needed}
@@ -24,18 +26,15 @@ use Rattle.markdown.specs.Sheets.{count_of, in_use, refilled}
 
 pub then_next : (p q : Result (Unit {0}) Refusal) → p ≡ Ok tt → q ≡ and_then p q
 then_next (Ok u) q e = refl
-then_next (Err x) q e = let z : ◌≡◌ {A = ℕ} 0 1 = cc in absurd (omega arith)
+then_next (Err x) q e = absurd (cc)
 
 then_ok : (p q : Result (Unit {0}) Refusal) → and_then p q ≡ Ok tt → q ≡ Ok tt
 then_ok (Ok u) q e = e
-then_ok (Err x) q e = let z : ◌≡◌ {A = ℕ} 0 1 = cc in absurd (omega arith)
+then_ok (Err x) q e = absurd (cc)
 
 cond_ok : (b : Bool) (p : Result (Unit {0}) Refusal) (x : Refusal) → cond b p (Err x) ≡ Ok tt → (b ≡ true) × (p ≡ Ok tt)
 cond_ok true p x e = (refl, e)
-cond_ok false p x e = let z : ◌≡◌ {A = ℕ} 0 1 = cc in absurd (omega arith)
-
-leb-true : (a b : ℕ) → leb a b ≡ true → a ≤ b
-leb-true a b e = grind (arith, nat_tests)
+cond_ok false p x e = absurd (cc)
 
 nat_le_min : (m n k : ℕ) → k < 65535 → m ≡ min 65535 n → leb m k ≡ leb n k
 nat_le_min m n k h e = grind (arith, nat_tests)
@@ -78,7 +77,7 @@ answer_within r y t o es g l w e =
 
 -- a source with something in it
 pub refilled_some : (r : Ruling) (y : MarkdownStyles) (t o : List ℕ) (es : List Event) (gs : List Glyph) (ls : List Span) (rs : List Row) → eqb (length o) 0 ≡ false → filled r y t o es gs ls rs ≡ refilled r y t o es gs ls rs
-refilled_some r y t [] es gs ls rs e = let z : ◌≡◌ {A = ℕ} 0 1 = cc in absurd (omega arith)
+refilled_some r y t [] es gs ls rs e = absurd (cc)
 refilled_some r y t (b ∷ o) es gs ls rs e = refl
 
 -- after an admitted load the records hold the blocks of the events
@@ -87,8 +86,9 @@ pub load_shows : (r : Ruling) (y : MarkdownStyles) (t o : List ℕ) (es : List E
 load_shows r y t [] es gs ls rs e = refl
 load_shows r y t (b ∷ o) es gs ls rs e = fold_shows r y t (b ∷ o) es gs ls rs (answer_within r y t (b ∷ o) es (length gs) (length ls) (length rs) e)
 
-same_needs : (g l r t a b c d : ℕ) → g ≡ a → l ≡ b → r ≡ c → t ≡ d → needs g l r t ≡ needs a b c d
-same_needs g l r t a b c d p q u v = rw (p, q, u, v) refl
+pub load_blocks : (r : Ruling) (y : MarkdownStyles) (t o : List ℕ) (es : List Event) (gs : List Glyph) (ls : List Span) (rs : List Row) (m : Memory) → m ≡ refilled r y t o es gs ls rs →
+    answered r y t o es (length gs) (length ls) (length rs) ≡ Ok tt → blocks_of m ≡ parsed r y t o es
+load_blocks r y t o es gs ls rs m e a = ap blocks_of e ∙ load_shows r y t o es gs ls rs a
 
 min_same : (m n k : ℕ) → m ≡ min 65535 n → n ≤ k → k < 65535 → m ≡ n
 min_same m n k e h l = omega arith

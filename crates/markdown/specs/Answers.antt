@@ -5,11 +5,16 @@ use Rattle.events.specs.declared.event.Event.{Event}
 use Rattle.events.specs.declared.styles.MarkdownStyles.{MarkdownStyles}
 use Rattle.events.specs.declared.refusal.Refusal.{Refusal}
 use Rattle.events.specs.declared.refusal.Refusal.TheVariants as refused
+use Rattle.events.specs.declared.refusal.Amount.{Amount}
 use Rattle.events.specs.declared.refusal.Amount.TheVariants.{Glyphs, Lines, Rows, Tables}
 use Rattle.events.specs.Styles.{in_order, styles_checked}
 use Rattle.checks.specs.Checks.{and_then, checked}
 use Rattle.blocks.specs.Needs.{Needs}
 use Rattle.parse.specs.Sketches.{needed}
+
+-- An amount up to its limit.
+abbrev pub within : ℕ → ℕ → Amount → Result (Unit {0}) Refusal
+within count limit amount = cond (nat_le count limit) (Ok tt) (Err (refused.Amount amount))
 
 -- The first amount that passes its limit: 50,000 glyphs, 4,096 lines and 4,096 rows, or the lent memory where that is smaller; 255 tables.
 abbrev pub limited_by : ℕ → ℕ → ℕ → ℕ → ℕ → ℕ → ℕ → Result (Unit {0}) Refusal

@@ -10,7 +10,6 @@ use Rattle.events.specs.Styles.{defaults}
 use Rattle.records.specs.declared.kinds.Span.{Span}
 use Rattle.records.specs.declared.kinds.Row.{Row}
 use Rattle.records.specs.Memory.{Memory, blank}
-use Rattle.records.specs.Views.{memory_of}
 use Rattle.blocks.specs.Pieces.{Piece}
 use Rattle.blocks.specs.Reads.{blocks_of}
 use Rattle.blocks.specs.Needs.{Needs, needs}
@@ -28,14 +27,14 @@ abbrev pub sheet : List Piece → Style → Bool → Sheet
 sheet ps s b = record { blocks = ps; border = s; streaming = b }
 
 abbrev pub sheet_of : Markdown → Sheet
-sheet_of m = sheet (blocks_of (memory_of m.records)) m.border m.streaming
+sheet_of m = sheet (blocks_of m.records) m.border m.streaming
 
 -- The lengths of the lent memory: glyphs, lines, rows.
 abbrev pub room_in : Memory → ℕ × ℕ × ℕ
 room_in m = (length m.glyphs, length m.lines, length m.rows)
 
 abbrev pub room_of : Markdown → ℕ × ℕ × ℕ
-room_of m = room_in (memory_of m.records)
+room_of m = room_in m.records
 
 -- What is new after an admitted load, and what stays after a refused one.
 abbrev pub on_ok : {X : Type 0} → Result (Unit {0}) Refusal → X → X → X

@@ -9,18 +9,17 @@
 #![tactic(auto)]
 
 ghost use Rattle.std.specs.Prelude.{◌≡◌, false, [], length, is_ok};
-ghost use Rattle.records.specs.Views.{memory_of};
 ghost use Rattle.blocks.specs.Reads.{blocks_of};
 ghost use Rattle.parse.specs.Sketches.{parsed};
 ghost use Rattle.parse.specs.Stands.{filled};
-ghost use Rattle.markdown.specs.Answers.{limited_by, limited, answered};
+ghost use Rattle.markdown.specs.Answers.{within, limited_by, answered};
 ghost use Rattle.markdown.specs.Sheets.{on_ok, empty_sheet, sheet_of, room_in, room_of, count_of, in_use, loaded, refilled};
 
 use checks::check;
 use events::event::Event;
 use events::refusal::{Amount, Refusal};
 use events::styles::{MarkdownStyles, check_styles};
-use fold::step::run;
+use fold::load::Load;
 use glyphs::{Glyph, Ruler};
 use records::kinds::{Records, Row, Span, Used};
 use style::Style;
@@ -41,101 +40,81 @@ pub struct Markdown<'a> {
     pub streaming: bool,
 }
 
-// The records that events use, written into memory without a place.
-fn count<'x, R: Ruler>(
-    ruler: &R,
-    styles: &MarkdownStyles,
-    events: &'x [Event],
-    text: &'x [u8],
-    source: &[u8],
-) -> Used
-    ensures value { result ≡ (filled (R.Ruler.meaning ruler.now) styles.now text.now source.now events.now [] [] []).used }
+// For how many records the lent memory has places.
+#[derive(Clone, Copy)]
+struct Room {
+    glyphs: usize,
+    lines: usize,
+    rows: usize,
+}
+
+// The records that a load uses, written into memory without a place.
+fn count<R: Ruler>(load: &Load<'_, R>) -> Used
+    ensures value { result ≡ (filled (R.Ruler.meaning load.now.ruler.now) load.now.styles.now load.now.text.now load.now.source.now load.now.events.now [] [] []).used }
 {
-    let mut glyphs: [Glyph; 0] = [];
-    let mut lines: [Span; 0] = [];
-    let mut rows: [Row; 0] = [];
-    let mut records = Records::new(&mut glyphs, &mut lines, &mut rows);
-    run(&mut records, ruler, styles, events, text, source);
+    let mut records = Records::new(&mut [], &mut [], &mut []);
+    load.run(&mut records);
     records.flush_text();
     records.used
 }
 
-// Refuses the first amount that passes its limit.
-fn check_amounts(used: Used, glyphs: usize, lines: usize, rows: usize) -> Result<(), Refusal>
-    ensures value { result ≡ limited_by used.glyphs used.lines used.rows used.tables glyphs lines rows }
+// Refuses an amount that passes its limit.
+fn within(count: u16, limit: usize, amount: Amount) -> Result<(), Refusal>
+    ensures value { result ≡ within count limit amount }
 {
-    if used.glyphs as usize > glyphs.min(MAX_GLYPHS) {
-        return Err(Refusal::Amount(Amount::Glyphs));
-    }
-    if used.lines as usize > lines.min(MAX_LINES) {
-        return Err(Refusal::Amount(Amount::Lines));
-    }
-    if used.rows as usize > rows.min(MAX_ROWS) {
-        return Err(Refusal::Amount(Amount::Rows));
-    }
-    if used.tables > MAX_TABLES {
-        return Err(Refusal::Amount(Amount::Tables));
+    if count as usize > limit {
+        return Err(Refusal::Amount(amount));
     }
     Ok(())
 }
 
-// All checks of a load, in their order.
-fn judge<'x, R: Ruler>(
-    ruler: &R,
-    styles: &MarkdownStyles,
-    events: &'x [Event],
-    text: &'x [u8],
-    source: &[u8],
-    glyphs: usize,
-    lines: usize,
-    rows: usize,
-) -> Result<(), Refusal>
-    ensures value { result ≡ answered (R.Ruler.meaning ruler.now) styles.now text.now source.now events.now glyphs lines rows }
+// Refuses the first amount that passes its limit.
+fn check_amounts(used: Used, room: Room) -> Result<(), Refusal>
+    ensures value { result ≡ limited_by used.glyphs used.lines used.rows used.tables room.glyphs room.lines room.rows }
 {
-    check_styles(styles)?;
-    check(ruler, events, text)?;
-    let used = count(ruler, styles, events, text, source);
-    check_amounts(used, glyphs, lines, rows)
+    within(used.glyphs, room.glyphs.min(MAX_GLYPHS), Amount::Glyphs)?;
+    within(used.lines, room.lines.min(MAX_LINES), Amount::Lines)?;
+    within(used.rows, room.rows.min(MAX_ROWS), Amount::Rows)?;
+    within(used.tables, usize::from(MAX_TABLES), Amount::Tables)
+}
+
+// All checks of a load, in their order.
+#[tactic(auto, using(crate::proofs::Loads::dry_limits))]
+fn judge<R: Ruler>(load: &Load<'_, R>, room: Room) -> Result<(), Refusal>
+    ensures value { result ≡ answered (R.Ruler.meaning load.now.ruler.now) load.now.styles.now load.now.text.now load.now.source.now load.now.events.now room.glyphs room.lines room.rows }
+{
+    check_styles(load.styles)?;
+    check(load.ruler, load.events, load.text)?;
+    check_amounts(count(load), room)
 }
 
 // The fold of events that were admitted.
-fn fill<'x, R: Ruler>(
-    records: &mut Records,
-    ruler: &R,
-    styles: &MarkdownStyles,
-    events: &'x [Event],
-    text: &'x [u8],
-    source: &[u8],
-)
-    ensures after { memory_of records.new ≡ refilled (R.Ruler.meaning ruler.now) styles.now text.now source.now events.now records.old.glyphs.now records.old.lines.now records.old.rows.now }
+fn fill<R: Ruler>(records: &mut Records, load: &Load<'_, R>)
+    ensures after { records.new ≡ refilled (R.Ruler.meaning load.now.ruler.now) load.now.styles.now load.now.text.now load.now.source.now load.now.events.now records.old.glyphs records.old.lines records.old.rows }
 {
     records.clear();
-    if !source.is_empty() {
-        run(records, ruler, styles, events, text, source);
+    if !load.source.is_empty() {
+        load.run(records);
         records.flush_text();
     }
 }
 
 // Checks everything, then writes.
-fn refill<'x, R: Ruler>(
-    records: &mut Records,
-    ruler: &R,
-    styles: &MarkdownStyles,
-    events: &'x [Event],
-    text: &'x [u8],
-    source: &[u8],
-) -> Result<(), Refusal>
-    ensures answer { result ≡ answered (R.Ruler.meaning ruler.now) styles.now text.now source.now events.now (length records.old.glyphs.now) (length records.old.lines.now) (length records.old.rows.now) }
-    ensures blocks { blocks_of (memory_of records.new) ≡ on_ok result (parsed (R.Ruler.meaning ruler.now) styles.now text.now source.now events.now) (blocks_of (memory_of records.old)) }
-    ensures used { count_of (memory_of records.new) ≡ on_ok result (in_use (R.Ruler.meaning ruler.now) styles.now text.now source.now events.now) (count_of (memory_of records.old)) }
-    ensures same { is_ok result ≡ false → memory_of records.new ≡ memory_of records.old }
-    ensures room { room_in (memory_of records.new) ≡ room_in (memory_of records.old) }
+#[tactic(auto, using(crate::proofs::Loads::load_blocks, crate::proofs::Loads::load_uses, crate::proofs::Loads::load_room))]
+fn refill<R: Ruler>(records: &mut Records, load: &Load<'_, R>) -> Result<(), Refusal>
+    ensures answer { result ≡ answered (R.Ruler.meaning load.now.ruler.now) load.now.styles.now load.now.text.now load.now.source.now load.now.events.now (length records.old.glyphs) (length records.old.lines) (length records.old.rows) }
+    ensures blocks { blocks_of records.new ≡ on_ok result (parsed (R.Ruler.meaning load.now.ruler.now) load.now.styles.now load.now.text.now load.now.source.now load.now.events.now) (blocks_of records.old) }
+    ensures used { count_of records.new ≡ on_ok result (in_use (R.Ruler.meaning load.now.ruler.now) load.now.styles.now load.now.text.now load.now.source.now load.now.events.now) (count_of records.old) }
+    ensures same { is_ok result ≡ false → records.new ≡ records.old }
+    ensures room { room_in records.new ≡ room_in records.old }
 {
-    let glyphs = records.glyphs.len();
-    let lines = records.lines.len();
-    let rows = records.rows.len();
-    judge(ruler, styles, events, text, source, glyphs, lines, rows)?;
-    fill(records, ruler, styles, events, text, source);
+    let room = Room {
+        glyphs: records.glyphs.len(),
+        lines: records.lines.len(),
+        rows: records.rows.len(),
+    };
+    judge(load, room)?;
+    fill(records, load);
     Ok(())
 }
 
@@ -164,11 +143,18 @@ impl<'a> Markdown<'a> {
     ) -> Result<(), Refusal>
         ensures answer { result ≡ answered (R.Ruler.meaning ruler.now) styles.now text.now source.now events.now (room_of self.old).0 (room_of self.old).1 (room_of self.old).2 }
         ensures held { sheet_of self.new ≡ loaded result (R.Ruler.meaning ruler.now) styles.now text.now source.now events.now (sheet_of self.old) }
-        ensures used { count_of (memory_of self.new.records) ≡ on_ok result (in_use (R.Ruler.meaning ruler.now) styles.now text.now source.now events.now) (count_of (memory_of self.old.records)) }
-        ensures same { is_ok result ≡ false → memory_of self.new.records ≡ memory_of self.old.records }
+        ensures used { count_of self.new.records ≡ on_ok result (in_use (R.Ruler.meaning ruler.now) styles.now text.now source.now events.now) (count_of self.old.records) }
+        ensures same { is_ok result ≡ false → self.new.records ≡ self.old.records }
         ensures room { room_of self.new ≡ room_of self.old }
     {
-        refill(&mut self.records, ruler, styles, events, text, source)?;
+        let load = Load {
+            ruler,
+            styles,
+            events,
+            text,
+            source,
+        };
+        refill(&mut self.records, &load)?;
         self.border = styles.table_border;
         Ok(())
     }

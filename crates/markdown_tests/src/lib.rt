@@ -32,48 +32,45 @@ fn table(columns: u8, end: u32) -> Event {
 
 // Whether glyphs show these bytes, one each.
 fn shows(glyphs: &[Glyph], text: &[u8]) -> bool {
-    if glyphs.len() != text.len() {
-        return false;
+    glyphs.len() == text.len()
+        && glyphs.iter().zip(text.iter()).all(|(g, b)| g.symbol.len == 1
+            && g.symbol.bytes == u64::from(*b))
+}
+
+// The lines of a text block, none if it is no text.
+fn lines<'a>(sheet: &'a Markdown, block: usize) -> &'a [Span] {
+    match sheet.records.blocks().get(block) {
+        Some(Block::Text(span)) => sheet.records.lines_in(*span),
+        _ => &[],
     }
-    for (g, b) in glyphs.iter().zip(text.iter()) {
-        if g.symbol.len != 1 || g.symbol.bytes != *b as u64 {
-            return false;
-        }
+}
+
+// The rows of a table, none if the block is no table.
+fn rows<'a>(sheet: &'a Markdown, block: usize) -> &'a [Row] {
+    match sheet.records.blocks().get(block) {
+        Some(Block::Table(_, span)) => sheet.records.rows_in(*span),
+        _ => &[],
     }
-    true
 }
 
 // Whether a line of a text block shows these bytes.
 fn has_line(sheet: &Markdown, block: usize, line: usize, text: &[u8]) -> bool {
-    match sheet.records.blocks().get(block).copied() {
-        Some(Block::Text(span)) => match sheet.records.lines_in(span).get(line).copied() {
-            Some(place) => shows(sheet.records.glyphs_in(place), text),
-            None => false,
-        },
-        _ => false,
-    }
+    lines(sheet, block)
+        .get(line)
+        .is_some_and(|place| shows(sheet.records.glyphs_in(*place), text))
 }
 
 // How many lines a text block has, none if it is no text.
 fn line_count(sheet: &Markdown, block: usize) -> usize {
-    match sheet.records.blocks().get(block).copied() {
-        Some(Block::Text(span)) => sheet.records.lines_in(span).len(),
-        _ => 0,
-    }
+    lines(sheet, block).len()
 }
 
 // Whether an entry of a table shows these bytes.
 fn has_entry(sheet: &Markdown, block: usize, row: usize, column: usize, text: &[u8]) -> bool {
-    match sheet.records.blocks().get(block).copied() {
-        Some(Block::Table(_, span)) => match sheet.records.rows_in(span).get(row).copied() {
-            Some(r) => match r.entries.get(column).copied() {
-                Some(place) => shows(sheet.records.glyphs_in(place), text),
-                None => false,
-            },
-            None => false,
-        },
-        _ => false,
-    }
+    rows(sheet, block)
+        .get(row)
+        .and_then(|r| r.entries.get(column))
+        .is_some_and(|place| shows(sheet.records.glyphs_in(*place), text))
 }
 
 #[cfg(test)]

@@ -10,16 +10,8 @@
 
 ghost use Rattle.parse.specs.Stands.{FoldShows, FoldCounts};
 
-// The law that ties the fold's records to the lists.
-pub fn fold_shows() -> u8
-    ensures value { FoldShows }
-{
-    0
-}
-
-// The law that ties the fold's counts to what the events need.
-pub fn fold_counts() -> u8
-    ensures value { FoldCounts }
-{
-    0
-}
+// The laws that tie the fold's records to the lists, and its counts to what the events need.
+pub fn fold_laws()
+    ensures shows { FoldShows }
+    ensures counts { FoldCounts }
+{}

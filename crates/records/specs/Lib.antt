@@ -1,3 +1,2 @@
 pub mod Acts
 pub mod Memory
-pub mod Views

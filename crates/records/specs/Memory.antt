@@ -1,4 +1,4 @@
-use Rattle.std.specs.Prelude.{ℕ, ◌+◌, ◌-◌, Bool, true, false, cond, List, take, drop, replicate, fold, nat_lt, slice_set}
+use Rattle.std.specs.Prelude.{ℕ, ◌+◌, ◌-◌, Bool, true, false, cond, List, take, drop, replicate, fold, nat_lt, slice_set, Option, Some, None}
 use Rattle.glyphs.specs.declared.Glyph.{Glyph}
 use Rattle.records.specs.declared.kinds.Span.{Span}
 use Rattle.records.specs.declared.kinds.Row.{Row}
@@ -45,8 +45,8 @@ used g l r t b = record { glyphs = g; lines = l; rows = r; tables = t; blocks = 
 abbrev pub stretch : ℕ → Bool → ℕ → Bool → ℕ → Stretch
 stretch f b s m u = record { from = f; bare = b; first = s; more = m; full = u }
 
-abbrev pub table_acc : Bool → Info → ℕ → Row → ℕ → TableAcc
-table_acc b i h r n = record { begun = b; info = i; head = h; row = r; entries = n }
+abbrev pub table_acc : Option Info → ℕ → Row → ℕ → TableAcc
+table_acc i h r n = record { info = i; head = h; row = r; entries = n }
 
 abbrev pub unused : Used
 unused = used 0 0 0 0 0
@@ -55,7 +55,7 @@ abbrev pub clean : Stretch
 clean = stretch 0 true 0 false 0
 
 abbrev pub no_table : TableAcc
-no_table = table_acc false (record { columns = 0; alignments = 0; «open» = false }) 0 blank_row 0
+no_table = table_acc None 0 blank_row 0
 
 -- Lent memory of which nothing is in use.
 abbrev pub blank : List Glyph → List Span → List Row → Memory
@@ -119,7 +119,7 @@ rowed m at r n t acc = record {
 
 -- A table has begun: its header row is there, of empty entries.
 abbrev pub begun : Memory → Info → Memory
-begun m i = rowed m m.used.rows blank_row (up m.used.rows) (up m.used.tables) (table_acc true i m.used.rows blank_row 0)
+begun m i = rowed m m.used.rows blank_row (up m.used.rows) (up m.used.tables) (table_acc (Some i) m.used.rows blank_row 0)
 
 -- The table is no more under way.
 abbrev pub closed : Memory → Memory
@@ -130,8 +130,13 @@ closed m = record {
   blocks = m.blocks;
   used = m.used;
   text = m.text;
-  table = table_acc false m.table.info m.used.rows m.table.row m.table.entries;
+  table = table_acc None m.used.rows m.table.row m.table.entries;
 }
+
+-- The end of a table that was told this, if one was begun.
+abbrev pub ended : Option Info → Memory → Memory
+ended None m = m
+ended (Some i) m = closed (added m (Table i (span m.table.head m.used.rows)))
 
 -- What an act does to the records. A place past the end of a list is not written.
 abbrev pub act : Memory → Act → Memory
@@ -153,11 +158,11 @@ act m end_entry = record {
   blocks = m.blocks;
   used = m.used;
   text = stretch m.used.glyphs true m.text.first m.text.more m.text.full;
-  table = table_acc m.table.begun m.table.info m.table.head (entered m.table.row m.table.entries (span m.text.from m.used.glyphs)) (up m.table.entries);
+  table = table_acc m.table.info m.table.head (entered m.table.row m.table.entries (span m.text.from m.used.glyphs)) (up m.table.entries);
 }
-act m end_head = rowed m m.table.head m.table.row m.used.rows m.used.tables (table_acc m.table.begun m.table.info m.table.head blank_row 0)
-act m end_row = rowed m m.used.rows m.table.row (up m.used.rows) m.used.tables (table_acc m.table.begun m.table.info m.table.head blank_row 0)
-act m end_table = cond m.table.begun (closed (added m (Table m.table.info (span m.table.head m.used.rows)))) m
+act m end_head = rowed m m.table.head m.table.row m.used.rows m.used.tables (table_acc m.table.info m.table.head blank_row 0)
+act m end_row = rowed m m.used.rows m.table.row (up m.used.rows) m.used.tables (table_acc m.table.info m.table.head blank_row 0)
+act m end_table = ended m.table.info m
 
 abbrev pub acted : Memory → List Act → Memory
 acted m xs = fold act m xs

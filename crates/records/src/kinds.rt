@@ -1,4 +1,5 @@
 use glyphs::Glyph;
+use std::marker::Model;
 
 // A stretch of records: where it begins, and how many they are.
 #[derive(Clone, Copy, PartialEq, Eq, Debug)]
@@ -7,10 +8,20 @@ pub struct Span {
     pub len: u16,
 }
 
+impl Span {
+    pub const EMPTY: Span = Span { start: 0, len: 0 };
+}
+
 // A table row: its entries, each a stretch of glyphs, empty ones behind those that came.
 #[derive(Clone, Copy)]
 pub struct Row {
     pub entries: [Span; 32],
+}
+
+impl Row {
+    pub const BLANK: Row = Row {
+        entries: [Span::EMPTY; 32],
+    };
 }
 
 // What a table is told at its start: its columns, their alignments (two bits each, the first
@@ -30,7 +41,7 @@ pub enum Block {
 }
 
 // How many records are in use. A count stops at 65535, which is above every limit.
-#[derive(Clone, Copy)]
+#[derive(Clone, Copy, Default)]
 pub struct Used {
     pub glyphs: u16,
     pub lines: u16,
@@ -51,15 +62,35 @@ pub struct Stretch {
     pub full: u16,
 }
 
-// The table that is being written: whether there is one, what it was told, where its header stands
-// in the rows, its open row, and how many entries of that have come.
+impl Stretch {
+    // Before anything is written.
+    pub const CLEAN: Stretch = Stretch {
+        from: 0,
+        bare: true,
+        first: 0,
+        more: false,
+        full: 0,
+    };
+}
+
+// The table that is being written: what it was told, if there is one, where its header stands in the
+// rows, its open row, and how many entries of that have come.
 #[derive(Clone, Copy)]
 pub struct TableAcc {
-    pub begun: bool,
-    pub info: Info,
+    pub info: Option<Info>,
     pub head: u16,
     pub row: Row,
     pub entries: u16,
+}
+
+impl TableAcc {
+    // No table is being written.
+    pub const NONE: TableAcc = TableAcc {
+        info: None,
+        head: 0,
+        row: Row::BLANK,
+        entries: 0,
+    };
 }
 
 // Where a sheet is written: three lent memories, the blocks, and how far all of it is.
@@ -72,4 +103,13 @@ pub struct Records<'a> {
     pub used: Used,
     pub text: Stretch,
     pub table: TableAcc,
+}
+
+// In a contract the records are the lists that they hold.
+impl<'a> Model for Records<'a> {
+    ghost use Rattle.records.specs.Memory.{Memory};
+
+    ghost Value = { Memory };
+
+    ghost view = { λ s. record { glyphs = s.glyphs.now; lines = s.lines.now; rows = s.rows.now; blocks = s.blocks; used = s.used; text = s.text; table = s.table } };
 }

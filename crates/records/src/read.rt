@@ -9,29 +9,28 @@ use glyphs::Glyph;
 fn part<T>(xs: &[T], span: Span) -> &[T]
     ensures value { result.now ≡ spanned xs.now span }
 {
-    let from = (span.start as usize).min(xs.len());
-    let len = (span.len as usize).min(xs.len() - from);
-    &xs[from..from + len]
+    let rest = xs.get(span.start as usize..).unwrap_or_default();
+    &rest[..rest.len().min(span.len as usize)]
 }
 
 impl<'a> Records<'a> {
     // The glyphs of a line or an entry.
     pub fn glyphs_in(&self, span: Span) -> &[Glyph]
-        ensures value { result.now ≡ spanned self.now.glyphs.now span }
+        ensures value { result.now ≡ spanned self.now.glyphs span }
     {
         part(self.glyphs, span)
     }
 
     // The lines of a text.
     pub fn lines_in(&self, span: Span) -> &[Span]
-        ensures value { result.now ≡ spanned self.now.lines.now span }
+        ensures value { result.now ≡ spanned self.now.lines span }
     {
         part(self.lines, span)
     }
 
     // The rows of a table.
     pub fn rows_in(&self, span: Span) -> &[Row]
-        ensures value { result.now ≡ spanned self.now.rows.now span }
+        ensures value { result.now ≡ spanned self.now.rows span }
     {
         part(self.rows, span)
     }
