@@ -31,10 +31,7 @@ const LAST_COLOURS: Style = Style {
 
 // The number and the value that a call tells, 0 where it is admitted.
 pub fn told(r: Result<(), Refusal>) -> (u8, Option<u64>) {
-    match r {
-        Ok(()) => (0, None),
-        Err(e) => (e.number(), e.value()),
-    }
+    r.err().map_or((0, None), |e| (e.number(), e.value()))
 }
 
 fn edges<S: Surface>(rt: &impl Abort, s: &mut S) {
