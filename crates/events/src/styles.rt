@@ -3,7 +3,7 @@ ghost use Rattle.std.specs.Prelude.{◌≡◌, not, position};
 ghost use Rattle.events.specs.Styles.{defaults, in_order, has_colours, styles_checked};
 
 use super::refusal::Refusal;
-use style::{BOLD, DARK_GRAY, ITALIC, LAST_COLOUR, Style};
+use style::{BOLD, DARK_GRAY, ITALIC, Style};
 
 const GREEN: u8 = 3;
 
@@ -70,17 +70,11 @@ impl MarkdownStyles {
     }
 }
 
-fn has_known_colours(style: Style) -> bool
-    ensures value { result ≡ has_colours style }
-{
-    style.fg <= LAST_COLOUR && style.bg <= LAST_COLOUR
-}
-
 // The number of the first style with a colour that does not exist.
 fn first_bad(styles: &[Style; 8]) -> Option<usize>
     ensures value { result ≡ position (λ style. not (has_colours style)) styles.now }
 {
-    styles.iter().position(|style| !has_known_colours(*style))
+    styles.iter().position(|style| !style.has_known_colours())
 }
 
 // Refuses the first style with a colour that does not exist.

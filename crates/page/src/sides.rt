@@ -6,7 +6,7 @@ ghost use Rattle.page.specs.Refusals.{put_answer, sides, memory_answer};
 ghost use Rattle.page.specs.Surfaces.{inside};
 
 use crate::refusals::Refusal;
-use style::{LAST_COLOUR, Style, Symbol};
+use style::{Style, Symbol};
 
 // The longest side of a page that is made.
 pub const LAST_SIDE: u16 = 1024;
@@ -61,7 +61,7 @@ impl Sides {
             return Err(Refusal::Outside);
         }
         let symbol = Symbol::new(symbol).ok_or(Refusal::Long)?;
-        if style.fg > LAST_COLOUR || style.bg > LAST_COLOUR {
+        if !style.has_known_colours() {
             return Err(Refusal::Colour);
         }
         Ok(symbol)

@@ -1,4 +1,4 @@
-use Rattle.std.specs.Prelude.{ℕ, ◌-◌, cond, ◌==◌, bit_and, bit_or}
+use Rattle.std.specs.Prelude.{ℕ, ◌-◌, Bool, cond, ◌&&◌, ◌==◌, bit_and, bit_or, nat_le}
 use Rattle.style.specs.declared.Style.{Style}
 
 -- the upper colour where it is set, else the lower
@@ -21,3 +21,7 @@ patched s t = record {
 -- the style that only adds the modifiers m
 abbrev pub adding : ℕ → Style
 adding m = record { fg = 0; bg = 0; add = m; remove = 0 }
+
+-- whether both colours exist: 0 for none, or one of the 16
+abbrev pub known_colours : Style → Bool
+known_colours t = nat_le t.fg 16 && nat_le t.bg 16

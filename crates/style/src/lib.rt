@@ -8,7 +8,7 @@
 
 ghost use Rattle.std.specs.Prelude.{◌≡◌, ◌≤◌, length, IfSome};
 ghost use Rattle.style.specs.Symbols.{packed, unpacked, bytes_of, symbol_from, whole};
-ghost use Rattle.style.specs.Styles.{colour_over, patched, adding};
+ghost use Rattle.style.specs.Styles.{colour_over, patched, adding, known_colours};
 
 pub const UNSET: u8 = 0;
 
@@ -61,6 +61,13 @@ impl Style {
             add: m,
             ..Style::PLAIN
         })
+    }
+
+    // Whether both colours exist: at most 16 each.
+    pub fn has_known_colours(self) -> bool
+        ensures value { result ≡ known_colours self }
+    {
+        self.fg <= LAST_COLOUR && self.bg <= LAST_COLOUR
     }
 }
 
