@@ -86,13 +86,11 @@ impl<'a> Surface for Grid<'a> {
     ghost lawful = { GridLawful };
 
     fn sides(&self) -> Sides {
-        match Grid::check(self.cells, self.width, self.height) {
-            Ok(()) => Sides {
-                width: self.width,
-                height: self.height,
-            },
-            Err(_) => Sides::NONE,
-        }
+        let sides = Sides {
+            width: self.width,
+            height: self.height,
+        };
+        sides.if_admitted(Grid::check(self.cells, self.width, self.height))
     }
 
     fn read(&self, x: u16, y: u16) -> Option<Cell> {

@@ -1,5 +1,6 @@
 pub mod Cells
 pub mod Refusals
+pub mod Admitted
 pub mod Surfaces
 pub mod Laws
 pub mod Rows

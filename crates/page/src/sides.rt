@@ -4,6 +4,7 @@ ghost use Rattle.std.specs.Prelude.{◌≡◌, ◌+◌, ◌*◌, length};
 ghost use Rattle.style.specs.Symbols.{symbol_of};
 ghost use Rattle.page.specs.Refusals.{put_answer, sides, memory_answer};
 ghost use Rattle.page.specs.Surfaces.{inside};
+ghost use Rattle.page.specs.Admitted.{if_admitted};
 
 use crate::refusals::Refusal;
 use style::{Style, Symbol};
@@ -65,6 +66,16 @@ impl Sides {
             return Err(Refusal::Colour);
         }
         Ok(symbol)
+    }
+
+    // These sides where a check admits them, else those of a page with no place.
+    pub fn if_admitted(self, answer: Result<(), Refusal>) -> Sides
+        ensures value { result ≡ if_admitted answer self }
+    {
+        match answer {
+            Ok(()) => self,
+            Err(_) => Sides::NONE,
+        }
     }
 
     // The checks of memory for a page of these sides, which needs `needed` of what is lent: first the sides.

@@ -111,13 +111,11 @@ impl<'a> Surface for Shelf<'a> {
     ghost lawful = { ShelfLawful };
 
     fn sides(&self) -> Sides {
-        match Shelf::check(self.bytes, self.width, self.height) {
-            Ok(()) => Sides {
-                width: self.width,
-                height: self.height,
-            },
-            Err(_) => Sides::NONE,
-        }
+        let sides = Sides {
+            width: self.width,
+            height: self.height,
+        };
+        sides.if_admitted(Shelf::check(self.bytes, self.width, self.height))
     }
 
     fn read(&self, x: u16, y: u16) -> Option<Cell> {
