@@ -37,7 +37,7 @@ impl Sides {
     pub fn cells(self) -> usize
         ensures value { result ≡ self.width * self.height }
     {
-        self.width as usize * self.height as usize
+        usize::from(self.width) * usize::from(self.height)
     }
 
     // Whether a place lies between them.
@@ -51,7 +51,7 @@ impl Sides {
     pub fn place(self, x: u16, y: u16) -> usize
         ensures value { result ≡ y * self.width + x }
     {
-        y as usize * self.width as usize + x as usize
+        usize::from(y) * usize::from(self.width) + usize::from(x)
     }
 
     // The checks of a put on a page of these sides, in their order: the place, the symbol, the colours.
