@@ -1,7 +1,7 @@
 // Opening bytes that are no shelf: which block is told, in which order, and after every damage of one byte.
 
 use super::puts::told;
-use page::Surface;
+use page::{Refusal, Surface};
 use shelf::Shelf;
 use std::process::Abort;
 
@@ -65,26 +65,30 @@ fn blocks_are_looked_at_in_their_order(rt: HostRuntime) {
 }
 
 // What opening answers when the sides of a fresh page of n by 1 are changed to others.
-fn sides_judged(n: u64, blocks: u64, width: u64, height: u64) -> Option<u64> {
+fn sides_judged(n: u64, blocks: u64, width: u64, height: u64) -> Result<(), Refusal> {
     let side = 1..=1024;
     if !side.contains(&width) || !side.contains(&height) {
-        return Some(0);
+        return Err(Refusal::Block(0));
     }
     let cells = width * height;
     if cells < n && cells < 31 {
-        return Some(0);
+        return Err(Refusal::Block(0));
     }
     if cells.div_ceil(31) != blocks {
-        return Some(blocks);
+        return Err(Refusal::Block(blocks));
     }
-    if blocks > 1 { Some(1) } else { None }
+    if blocks > 1 {
+        Err(Refusal::Block(1))
+    } else {
+        Ok(())
+    }
 }
 
 // What opening answers when byte k of a fresh page of n by 1, n below 256, is changed to v.
-fn judged(n: u8, blocks: u64, k: usize, v: u8) -> Option<u64> {
+fn judged(n: u8, blocks: u64, k: usize, v: u8) -> Result<(), Refusal> {
     let n = u64::from(n);
     let block = (k / 512) as u64;
-    let refused = Some(block);
+    let refused = Err(Refusal::Block(block));
     match k {
         500 => return sides_judged(n, blocks, u64::from(v), 1),
         501 => return sides_judged(n, blocks, n + 256 * u64::from(v), 1),
@@ -96,9 +100,9 @@ fn judged(n: u8, blocks: u64, k: usize, v: u8) -> Option<u64> {
         return refused;
     }
     match (k % 16, v) {
-        (0, _) | (11, _) => None,
-        (8, 1..=8) => None,
-        (9, 0..=16) | (10, 0..=16) => None,
+        (0, _) | (11, _) => Ok(()),
+        (8, 1..=8) => Ok(()),
+        (9, 0..=16) | (10, 0..=16) => Ok(()),
         _ => refused,
     }
 }
@@ -113,7 +117,7 @@ fn all_damage(rt: &impl Abort, bytes: &mut [u8], n: u8, blocks: u64) {
         let old = bytes[k];
         for v in 0..=255u8 {
             bytes[k] = v;
-            let answer = Shelf::check_open(bytes).err().and_then(|e| e.value());
+            let answer = Shelf::check_open(bytes);
             if v != old {
                 assert_eq!(rt; answer, judged(n, blocks, k, v));
             }

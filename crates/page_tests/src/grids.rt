@@ -5,6 +5,14 @@ use grid::Grid;
 use page::{Cell, Surface};
 use style::Symbol;
 
+// What memory held before a grid was made over it.
+const OLD: Cell = Cell {
+    symbol: Symbol::EMPTY,
+    fg: 3,
+    bg: 4,
+    modifiers: 5,
+};
+
 #[test]
 fn a_grid_has_sides_of_1_to_1024_and_exactly_its_cells(rt: HostRuntime) {
     let cells = [Cell::FRESH; 1025];
@@ -27,13 +35,7 @@ fn a_grid_has_sides_of_1_to_1024_and_exactly_its_cells(rt: HostRuntime) {
 
 #[test]
 fn a_new_grid_is_fresh_whatever_its_memory_held(rt: HostRuntime) {
-    let old = Cell {
-        symbol: Symbol::EMPTY,
-        fg: 3,
-        bg: 4,
-        modifiers: 5,
-    };
-    let mut cells = [old; 6];
+    let mut cells = [OLD; 6];
     let g = Grid::new(&mut cells, 3, 2);
     assert_eq!(rt; g.width(), 3);
     assert_eq!(rt; g.height(), 2);
@@ -44,19 +46,13 @@ fn a_new_grid_is_fresh_whatever_its_memory_held(rt: HostRuntime) {
 
 #[test]
 fn a_grid_over_refused_memory_has_no_place_and_leaves_it(rt: HostRuntime) {
-    let old = Cell {
-        symbol: Symbol::EMPTY,
-        fg: 3,
-        bg: 4,
-        modifiers: 5,
-    };
-    let mut cells = [old; 5];
+    let mut cells = [OLD; 5];
     {
         let mut g = Grid::new(&mut cells, 3, 2);
         assert_eq!(rt; g.width(), 0);
         assert_eq!(rt; g.height(), 0);
         assert_eq!(rt; told(g.put(0, 0, b"a", PLAIN)), (6, None));
     }
-    assert_eq!(rt; cells[0], old);
-    assert_eq!(rt; cells[4], old);
+    assert_eq!(rt; cells[0], OLD);
+    assert_eq!(rt; cells[4], OLD);
 }

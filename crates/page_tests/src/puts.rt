@@ -8,6 +8,14 @@ use style::{BOLD, ITALIC, Style, Symbol};
 
 pub const PLAIN: Style = Style::PLAIN;
 
+// The letter a, put on a fresh cell.
+pub const LETTER: Cell = Cell {
+    symbol: Symbol { bytes: 97, len: 1 },
+    fg: 0,
+    bg: 0,
+    modifiers: 0,
+};
+
 const NO_SUCH_FRONT: Style = Style {
     fg: 17,
     bg: 0,

@@ -1,10 +1,10 @@
 // The bytes of a shelf, and what opening them answers.
 
-use super::puts::{PLAIN, told};
+use super::puts::{LETTER, PLAIN, told};
 use page::{Cell, Sides, Surface};
 use shelf::Shelf;
 use std::test::Fail;
-use style::{BOLD, Style, Symbol};
+use style::{BOLD, Style};
 
 // What stands at a place of a block of a fresh page, of which some cells are left.
 fn fresh_byte(left: usize, block: usize, sides: Sides, at: usize) -> u8 {
@@ -35,7 +35,7 @@ fn is_fresh_block(bytes: &[u8], left: usize, block: usize, sides: Sides) -> bool
 
 // Whether bytes are those of a fresh page, looked at block by block.
 fn is_fresh(bytes: &[u8], sides: Sides) -> bool {
-    let mut left = sides.cells();
+    let mut left = usize::from(sides.width) * usize::from(sides.height);
     for (block, bytes) in bytes.chunks(512).enumerate() {
         if !is_fresh_block(bytes, left, block, sides) {
             return false;
@@ -47,11 +47,13 @@ fn is_fresh(bytes: &[u8], sides: Sides) -> bool {
 
 // Makes a fresh shelf in bytes that held something else, and looks at them.
 fn made_fresh(bytes: &mut [u8], width: u16, height: u16) -> bool {
-    let sides = Sides { width, height };
-    if Shelf::new(bytes, width, height).sides() != sides {
-        return false;
+    {
+        let shelf = Shelf::new(bytes, width, height);
+        if shelf.width() != width || shelf.height() != height {
+            return false;
+        }
     }
-    is_fresh(bytes, sides) && Shelf::check_open(bytes).is_ok()
+    is_fresh(bytes, Sides { width, height }) && Shelf::check_open(bytes).is_ok()
 }
 
 #[test]
@@ -115,14 +117,6 @@ fn a_shelf_is_opened_as_it_was_left(rt: HostRuntime) {
     }
     let shelf = Shelf::open(&mut bytes);
     assert_eq!(rt; (shelf.width(), shelf.height()), (3, 2));
-    assert_eq!(rt;
-        shelf.read(2, 1),
-        Some(Cell {
-            symbol: Symbol { bytes: 97, len: 1 },
-            fg: 0,
-            bg: 0,
-            modifiers: 0,
-        })
-    );
+    assert_eq!(rt; shelf.read(2, 1), Some(LETTER));
     assert_eq!(rt; shelf.read(1, 1), Some(Cell::FRESH));
 }

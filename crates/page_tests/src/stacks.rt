@@ -1,11 +1,10 @@
 // Layers over layers: what they show, where a put through them goes, and that all else stays.
 
 use super::layered::{paired, windowed};
-use super::puts::{PLAIN, told};
+use super::puts::{LETTER, PLAIN, told};
 use grid::Grid;
 use page::{Beside, Cell, Surface, Window};
 use shelf::Shelf;
-use style::Symbol;
 
 fn window<S>(below: S, x: u16, y: u16, width: u16, height: u16) -> Window<S> {
     Window {
@@ -16,13 +15,6 @@ fn window<S>(below: S, x: u16, y: u16, width: u16, height: u16) -> Window<S> {
         height,
     }
 }
-
-const LETTER: Cell = Cell {
-    symbol: Symbol { bytes: 97, len: 1 },
-    fg: 0,
-    bg: 0,
-    modifiers: 0,
-};
 
 #[test]
 fn a_window_is_cut_to_what_lies_below(rt: HostRuntime) {
