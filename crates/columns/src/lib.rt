@@ -58,9 +58,9 @@ fn natural_slots(given: &[u32]) -> [u32; MAX_COLUMNS]
     ensures { result ≡ slots (naturals given.now) }
 {
     let mut natural = [0; MAX_COLUMNS];
-    natural[0] = 1;
-    for (i, n) in given.iter().enumerate() {
-        natural[i] = (*n).max(1);
+    natural[..given.len()].copy_from_slice(given);
+    for n in natural[..given.len().max(1)].iter_mut() {
+        *n = (*n).max(1);
     }
     natural
 }

@@ -1,8 +1,9 @@
 -- Writing one text behind another.
-use Rattle.std.proofs.Common.{◌≡◌, ℕ, zero, suc, ◌+◌, ◌-◌, ◌*◌, ◌<◌, ◌≤◌, cond, true, false, List, [], ◌∷◌, ◌++◌, length, take, drop, set, get_or, sym, refl, ap, ◌∙◌, append_assoc, add-one, arith}
+use Rattle.std.proofs.Common.{◌≡◌, ℕ, zero, suc, ◌+◌, ◌-◌, ◌*◌, ◌<◌, ◌≤◌, cond, true, false, List, [], ◌∷◌, ◌++◌, length, take, drop, set, get_or, sym, refl, ap, ◌∙◌, append_assoc, add-one, nat_eq, ◌%◌, arith}
 use borrow.Rule.Slice.PartMut.{put_mid}
 use Rattle.std.proofs.Math.ListN.{drop_of_length-le}
 use Rattle.std.proofs.lemmas.List.{append-nil, length-append, take_at, take_all, drop_at, drop_more, drop-drop, set_at}
+use Rattle.std.proofs.lemmas.List.FromFn.{fill_by_all}
 use Rattle.tail.specs.Entries.{dashes, delimiter_row}
 use Rattle.tail.specs.Patches.{patched, size}
 use Rattle.tail.specs.declared.patch.Patch.{Patch}
@@ -32,12 +33,27 @@ put-behind : (s rest x y : List ℕ) (at k : ℕ) → x ≡ s ++ rest → at ≡
 put-behind s rest x y at k e a =
     ap (λ l. l ++ (y ++ drop k (drop at x))) (ap (take at) e ∙ take_at s rest at (sym a)) ∙ ap (λ l. s ++ (y ++ drop k l)) (ap (drop at) e ∙ drop_at s rest at (sym a))
 
--- one more column of a row
-pub column_on : (out x y : List ℕ) (n at k : ℕ) → x ≡ delimiter_row n ++ drop (1 + 4 * n) out → at ≡ 1 + 4 * n → k ≡ 4 → y ≡ column → put_mid at k x y ≡ delimiter_row (n + 1) ++ drop (1 + 4 * (n + 1)) out
-column_on out x y n at k e a f g =
-    put-behind (delimiter_row n) (drop (1 + 4 * n) out) x y at k e (a ∙ sym (length_row n))
-    ∙ (ap (λ l. delimiter_row n ++ (l ++ drop k (drop (1 + 4 * n) out))) g ∙ (sym (append_assoc (delimiter_row n) column (drop k (drop (1 + 4 * n) out)))
-    ∙ (ap (λ l. (124 ∷ l) ++ drop k (drop (1 + 4 * n) out)) (dashes-push n ∙ ap dashes (sym (add-one n))) ∙ ap (λ l. delimiter_row (n + 1) ++ l) (drop-drop k (1 + 4 * n) out ∙ ap (λ i. drop i out) (let z : 1 + 4 * n + k ≡ 1 + 4 * (n + 1) = omega arith in z)))))
+-- what stands at each place of a row
+abbrev pub row_byte : ℕ → ℕ
+row_byte j = cond (nat_eq (j % 4) 0) 124 45
+
+dash_at : (n i : ℕ) → i < 4 * n → get_or (dashes n) i 0 ≡ row_byte (i + 1)
+dash_at zero i h = absurd (omega arith)
+dash_at (suc n) zero h = refl
+dash_at (suc n) (suc zero) h = refl
+dash_at (suc n) (suc (suc zero)) h = refl
+dash_at (suc n) (suc (suc (suc zero))) h = refl
+dash_at (suc n) (suc (suc (suc (suc i)))) h =
+    let turn : (i + 1) % 4 ≡ (suc (suc (suc (suc i))) + 1) % 4 = omega arith in
+    dash_at n i (omega arith) ∙ ap (λ r. cond (nat_eq r 0) 124 45) turn
+
+row_at : (n i : ℕ) → i < 1 + 4 * n → get_or (delimiter_row n) i 0 ≡ row_byte i
+row_at n zero h = refl
+row_at n (suc i) h = dash_at n i (omega arith) ∙ ap row_byte (add-one i)
+
+-- a whole row, told byte by byte
+pub row_by : (xs : List ℕ) (n : ℕ) → length xs ≡ 1 + 4 * n → ((k : ℕ) → k < 1 + 4 * n → get_or xs k 0 ≡ row_byte k) → xs ≡ delimiter_row n
+row_by xs n e each = fill_by_all row_byte xs (1 + 4 * n) 0 e each ∙ sym (fill_by_all row_byte (delimiter_row n) (1 + 4 * n) 0 (length_row n) (row_at n))
 
 -- a row behind s, up to the end of the output
 module _ (s rest x z row : List ℕ) (at m : ℕ) (e : x ≡ s ++ rest) (a : at ≡ length s) where

@@ -11,7 +11,7 @@ fn delimits(entry: &str) -> bool
     ensures { result ≡ delimits (chars entry.now) }
 {
     let hyphens = without_last(without_first(entry.trim(), ':'), ':');
-    !hyphens.is_empty() && hyphens.chars().all(|c| c == '-')
+    !hyphens.is_empty() && hyphens.chars().all(|c| matches!(c, '-'))
 }
 
 // Whether an unfinished delimiter row may have the character: a pipe, a hyphen, a colon, a space or a tab.

@@ -16,10 +16,8 @@ fn delimiter_row(out: &mut [u8], cols: usize)
     requires { 1 + 4 * cols ≤ length out.old }
     ensures { out.new ≡ delimiter_row cols ++ drop (1 + 4 * cols) out.old }
 {
-    out[0] = b'|';
-    for k in 0..cols {
-        let place = 1 + 4 * k;
-        out[place..place + 4].copy_from_slice(b"---|");
+    for (k, byte) in out[..1 + 4 * cols].iter_mut().enumerate() {
+        *byte = if k % 4 == 0 { b'|' } else { b'-' };
     }
 }
 

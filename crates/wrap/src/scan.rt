@@ -41,10 +41,8 @@ fn fitting(glyphs: &[Glyph], width: u16) -> usize
 pub fn first_misfit(line: &[Glyph], width: u16, start: usize) -> usize
     ensures value { result ≡ first_misfit line.now width start }
 {
-    match line.get(start..) {
-        Some(glyphs) => start + fitting(glyphs, width),
-        None => start,
-    }
+    line.get(start..)
+        .map_or(start, |glyphs| start + fitting(glyphs, width))
 }
 
 // How many spaces stand at the front.
@@ -59,10 +57,8 @@ fn spaces(glyphs: &[Glyph]) -> usize
 pub fn past_spaces(line: &[Glyph], start: usize) -> usize
     ensures value { result ≡ past_spaces line.now start }
 {
-    match line.get(start..) {
-        Some(glyphs) => start + spaces(glyphs),
-        None => start,
-    }
+    line.get(start..)
+        .map_or(start, |glyphs| start + spaces(glyphs))
 }
 
 // The last space before `end` with a non-space before it in the row. Where the last space has only

@@ -5,7 +5,7 @@ use style::{Style, Symbol};
 
 pub fn glyph(byte: u8) -> Glyph {
     let symbol = Symbol {
-        bytes: byte as u64,
+        bytes: u64::from(byte),
         len: 1,
     };
     let width = if byte.is_ascii_uppercase() { 2 } else { 1 };

@@ -1,13 +1,9 @@
-use Rattle.std.proofs.Common.{◌≡◌, max, get_or, arith}
-use Rattle.std.proofs.lemmas.List.{take_all}
-use Rattle.columns.proofs.Slots.{naturals_more}
+use Rattle.std.proofs.Common.{arith, refl}
+use Rattle.columns.proofs.Slots.{raised_more, raised}
 use Rattle.columns.proofs.natural_slots.Goals as goal
 
-pub loop-i-preserved : goal.loop-i-preserved
-loop-i-preserved c =
-    let more = naturals_more c.args.given.now c.loop-i.i (omega arith) c.requires in
-    let wide : c.max.result ≡ max 1 (get_or c.args.given.now c.loop-i.i 0) = omega arith in
-    cc
+pub loop-n-preserved : goal.loop-n-preserved
+loop-n-preserved c = raised_more _ c.loop-n.n-items c.loop-n.n-index c.max-in-loop-n.result c.loop-n-test.true c.loop-n.invariant c.max-in-loop-n.ensures
 
 pub returns : goal.returns
-returns c = let all = take_all c.loop-i.i c.args.given.now c.loop-i-test.false in cc
+returns c = raised c.args.given.now _ c.loop-n.n-items _ c.loop-n.n-index c.max.result c.requires c.max.ensures (rw c.copy_from_slice.ensures.after refl) refl c.loop-n.invariant (omega (arith, c.loop-n-test.false))

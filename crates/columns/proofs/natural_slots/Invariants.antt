@@ -1,7 +1,5 @@
-use Rattle.std.proofs.Common.{◌≡◌, take}
-use Rattle.shares.specs.Shares.{naturals}
-use Rattle.columns.specs.Layout.{slots}
+use Rattle.std.proofs.Common.{◌≡◌, ◌++◌, map, max, take, drop}
 use Rattle.columns.proofs.natural_slots.Given as goal
 
-abbrev pub invariant-loop-i : goal.invariant-loop-i
-invariant-loop-i l = l.natural ≡ slots (naturals (take l.i l.given))
+abbrev pub invariant-loop-n : goal.invariant-loop-n
+invariant-loop-n l = l.n-items ≡ map (max 1) (take l.n-index l.initial.n-items) ++ drop l.n-index l.initial.n-items

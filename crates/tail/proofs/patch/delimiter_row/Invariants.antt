@@ -1,6 +1,6 @@
-use Rattle.std.proofs.Common.{◌≡◌, ◌+◌, ◌*◌, ◌++◌, drop}
-use Rattle.tail.specs.Entries.{delimiter_row}
+use Rattle.std.proofs.Common.{◌≡◌, ℕ, ◌<◌, get_or}
+use Rattle.tail.proofs.Pastes.{row_byte}
 use Rattle.tail.proofs.patch.delimiter_row.Given as goal
 
 abbrev pub invariant-loop-k : goal.invariant-loop-k
-invariant-loop-k l = l.out ≡ delimiter_row l.k ++ drop (1 + 4 * l.k) l.fn.out
+invariant-loop-k l = (j : ℕ) → j < l.k → get_or l.byte-items j 0 ≡ row_byte j
