@@ -4,6 +4,7 @@ use crate::stops::*;
 use crate::texts::{RuleName, RulerName};
 use crate::{pages, texts};
 use script::answer_line;
+use std::fmt;
 use std::str::FromStr;
 use words::{Fault, Words, text_of};
 
@@ -32,18 +33,8 @@ impl Desk {
             return Ok(());
         };
         match name {
-            "ruler" => {
-                self.ruler = read_name(words)?;
-                let ruler = self.ruler;
-                println!(rt; "ruler {ruler}")?;
-                Ok(())
-            }
-            "rule" => {
-                self.rule = read_name(words)?;
-                let rule = self.rule;
-                println!(rt; "rule {rule}")?;
-                Ok(())
-            }
+            "ruler" => set(rt, name, &mut self.ruler, words),
+            "rule" => set(rt, name, &mut self.rule, words),
             "measure" => texts::measure(rt, self.ruler, words),
             "glyphs" => texts::glyphs(rt, self.ruler, words),
             "rows" => texts::rows(rt, self.ruler, self.rule, words),
@@ -106,12 +97,19 @@ impl Desk {
     }
 }
 
-// The name that a line sets.
-fn read_name<T: FromStr<Err = Fault> + Drop>(mut words: Words) -> Result<T, Fault> {
-    let word = words.next_word().ok_or(Fault::MissingName)?;
-    let name = word.parse::<T>()?;
+// Sets what a line names, and tells it.
+fn set<T: FromStr<Err = Fault> + fmt::Display + Copy>(
+    rt: &HostRuntime,
+    command: &str,
+    place: &mut T,
+    mut words: Words,
+) -> Result<(), Stop> {
+    let name = words.next_word().ok_or(Fault::MissingName)?;
+    let value = name.parse::<T>()?;
     words.end()?;
-    Ok(name)
+    *place = value;
+    println!(rt; "{command} {value}")?;
+    Ok(())
 }
 
 // The commands that need nothing set up.

@@ -1,8 +1,8 @@
 // The commands on pages: a grid or a shelf, with a window over it where one is set.
 use crate::stops::*;
-use crate::texts::{symbol_bytes, symbol_text};
+use crate::texts::{last_bytes, symbol_bytes, symbol_text};
 use grid::Grid;
-use page::{Cell, Refusal, Surface, Window};
+use page::{Cell, Refusal, Sides, Surface, Window};
 use shelf::Shelf;
 use std::alloc::Global;
 use std::fs;
@@ -22,12 +22,11 @@ enum Memory {
     Bytes(Vec<u8>),
 }
 
-// The page that a script works on, with its sides.
+// The page that a script works on.
 #[derive(Drop)]
 pub struct Page {
     memory: Memory,
-    width: u16,
-    height: u16,
+    sides: Sides,
 }
 
 // A part of a page, from a corner on.
@@ -89,7 +88,7 @@ fn read_sides<F: FnOnce(u16, u16) -> Result<(), Refusal>>(
     mut words: Words,
     most: u64,
     over_none: F,
-) -> Result<(u16, u16, usize), Fault>
+) -> Result<(Sides, usize), Fault>
     requires { F.IsAlwaysCallable over_none }
 {
     let width = side(&mut words)?;
@@ -100,53 +99,49 @@ fn read_sides<F: FnOnce(u16, u16) -> Result<(), Refusal>>(
         words.next_number(most)? as usize
     };
     words.end()?;
-    Ok((width, height, count))
+    Ok((Sides { width, height }, count))
 }
 
 pub fn grid(rt: &HostRuntime, words: Words) -> Result<Page, Stop> {
-    let (width, height, count) = read_sides(words, MOST_CELLS, |w, h| Grid::check(&[], w, h))?;
+    let (sides, count) = read_sides(words, MOST_CELLS, |w, h| Grid::check(&[], w, h))?;
+    let Sides { width, height } = sides;
     let mut cells = vec![in rt.alloc(); Cell::FRESH; count]?;
     Grid::check(cells.as_slice(), width, height).map_err(|e| Stop::Refused("grid", e))?;
     let _grid = Grid::new(cells.as_mut_slice(), width, height);
     println!(rt; "grid {width} {height}")?;
     Ok(Page {
         memory: Memory::Cells(cells),
-        width,
-        height,
+        sides,
     })
 }
 
 pub fn shelf(rt: &HostRuntime, words: Words) -> Result<Page, Stop> {
-    let (width, height, count) = read_sides(words, MOST_BYTES, |w, h| Shelf::check(&[], w, h))?;
+    let (sides, count) = read_sides(words, MOST_BYTES, |w, h| Shelf::check(&[], w, h))?;
+    let Sides { width, height } = sides;
     let mut bytes = vec![in rt.alloc(); 0u8; count]?;
     Shelf::check(bytes.as_slice(), width, height).map_err(|e| Stop::Refused("shelf", e))?;
     let _shelf = Shelf::new(bytes.as_mut_slice(), width, height);
     println!(rt; "shelf {width} {height}")?;
     Ok(Page {
         memory: Memory::Bytes(bytes),
-        width,
-        height,
+        sides,
     })
 }
 
 // Takes over the bytes of a shelf.
 fn take_shelf(rt: &HostRuntime, mut bytes: Vec<u8>) -> Result<Page, Stop> {
     Shelf::check_open(bytes.as_slice()).map_err(|e| Stop::Refused("open", e))?;
-    let shelf = Shelf::open(bytes.as_mut_slice());
-    let width = shelf.width();
-    let height = shelf.height();
+    let sides = Shelf::open(bytes.as_mut_slice()).sides();
+    let Sides { width, height } = sides;
     println!(rt; "open {width} {height}")?;
     Ok(Page {
         memory: Memory::Bytes(bytes),
-        width,
-        height,
+        sides,
     })
 }
 
-pub fn open(rt: &HostRuntime, mut words: Words) -> Result<Page, Stop> {
-    let bytes = words.next_bytes(rt.alloc())?;
-    words.end()?;
-    take_shelf(rt, bytes)
+pub fn open(rt: &HostRuntime, words: Words) -> Result<Page, Stop> {
+    take_shelf(rt, last_bytes(rt.alloc(), words)?)
 }
 
 // The name of a file, the last word of a line.
@@ -243,8 +238,7 @@ pub fn read_read(mut words: Words) -> Result<Act, Fault> {
 impl Page {
     // Does it on the page, through the window where one is set.
     pub fn act(&mut self, rt: &HostRuntime, window: Option<Part>, act: Act) -> Result<(), Stop> {
-        let width = self.width;
-        let height = self.height;
+        let Sides { width, height } = self.sides;
         match &mut self.memory {
             Memory::Cells(cells) => {
                 let grid = Grid {
@@ -309,8 +303,7 @@ fn print_cell(rt: &HostRuntime, before: &str, x: u16, y: u16, cell: Cell) -> Res
 
 // Every cell that is not fresh, row by row.
 fn print_cells<S: Surface>(rt: &HostRuntime, page: &S) -> Result<(), Stop> {
-    let width = page.width();
-    let height = page.height();
+    let Sides { width, height } = page.sides();
     println!(rt; "cells {width} {height}")?;
     for y in 0..height {
         print_row_cells(rt, page, width, y)?;
@@ -332,8 +325,7 @@ fn print_row_cells<S: Surface>(rt: &HostRuntime, page: &S, width: u16, y: u16) -
 
 // The page as text: each row's symbols, without the spaces at its end.
 fn show<S: Surface>(rt: &HostRuntime, page: &S) -> Result<(), Stop> {
-    let width = page.width();
-    let height = page.height();
+    let Sides { width, height } = page.sides();
     println!(rt; "show {width} {height}")?;
     for y in 0..height {
         let row = row_text(rt.alloc(), page, width, y)?;

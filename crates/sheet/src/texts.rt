@@ -92,9 +92,22 @@ const BLANK: Glyph = Glyph {
     style: Style::PLAIN,
 };
 
-pub fn measure(rt: &HostRuntime, ruler: RulerName, mut words: Words) -> Result<(), Stop> {
-    let text = words.next_bytes(rt.alloc())?;
+// The byte string that is the last word of a line.
+pub fn last_bytes(heap: Global, mut words: Words) -> Result<Vec<u8>, Fault> {
+    let bytes = words.next_bytes(heap)?;
     words.end()?;
+    Ok(bytes)
+}
+
+// A cluster or a glyph as it is told behind others: its bytes and its width.
+fn push_piece(heap: Global, line: &mut String, bytes: &[u8], width: u8) -> Result<(), Fault> {
+    let bytes = hex_text(heap, bytes)?;
+    write!(line, " {bytes}:{width}")?;
+    Ok(())
+}
+
+pub fn measure(rt: &HostRuntime, ruler: RulerName, words: Words) -> Result<(), Stop> {
+    let text = last_bytes(rt.alloc(), words)?;
     let text = text.as_slice();
     if !ruler.admits(text) {
         println!(rt; "measure refused")?;
@@ -102,9 +115,7 @@ pub fn measure(rt: &HostRuntime, ruler: RulerName, mut words: Words) -> Result<(
     }
     let mut line = String::from_str(rt.alloc(), "measure")?;
     for cut in Clusters::new(&ruler, text) {
-        let bytes = hex_text(rt.alloc(), cut.bytes)?;
-        let width = cut.width;
-        write!(line, " {bytes}:{width}")?;
+        push_piece(rt.alloc(), &mut line, cut.bytes, cut.width)?;
     }
     rt.println(line)?;
     Ok(())
@@ -121,18 +132,17 @@ fn glyphs_of(heap: Global, ruler: RulerName, text: &[u8]) -> Result<Option<Vec<G
     Ok(Some(memory))
 }
 
-pub fn glyphs(rt: &HostRuntime, ruler: RulerName, mut words: Words) -> Result<(), Stop> {
-    let text = words.next_bytes(rt.alloc())?;
-    words.end()?;
+pub fn glyphs(rt: &HostRuntime, ruler: RulerName, words: Words) -> Result<(), Stop> {
+    let text = last_bytes(rt.alloc(), words)?;
     let Some(glyphs) = glyphs_of(rt.alloc(), ruler, text.as_slice())? else {
         println!(rt; "glyphs refused")?;
         return Ok(());
     };
     let mut line = String::from_str(rt.alloc(), "glyphs")?;
     for glyph in glyphs.iter() {
-        let bytes = symbol_text(rt.alloc(), glyph.symbol)?;
-        let width = glyph.width;
-        write!(line, " {bytes}:{width}")?;
+        let bytes = glyph.symbol.to_bytes();
+        let bytes = symbol_bytes(&bytes, glyph.symbol);
+        push_piece(rt.alloc(), &mut line, bytes, glyph.width)?;
     }
     rt.println(line)?;
     Ok(())
@@ -155,8 +165,7 @@ pub fn rows(
     mut words: Words,
 ) -> Result<(), Stop> {
     let width = side(&mut words)?;
-    let text = words.next_bytes(rt.alloc())?;
-    words.end()?;
+    let text = last_bytes(rt.alloc(), words)?;
     if width == 0 {
         return Err(Stop::Line(Fault::TooNarrow));
     }
@@ -190,9 +199,8 @@ fn print_rows<R: BreakingRule>(
 }
 
 // Asks first how long the cooked text is, and then for the text.
-pub fn cook(rt: &HostRuntime, mut words: Words) -> Result<(), Stop> {
-    let source = words.next_bytes(rt.alloc())?;
-    words.end()?;
+pub fn cook(rt: &HostRuntime, words: Words) -> Result<(), Stop> {
+    let source = last_bytes(rt.alloc(), words)?;
     let source = source.as_slice();
     let len = match cook_streaming_tail(source, &mut []) {
         Ok(_) => {
