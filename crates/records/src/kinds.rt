@@ -12,15 +12,21 @@ impl Span {
     pub const EMPTY: Span = Span { start: 0, len: 0 };
 }
 
+// The most columns of a table, which are the entries of a row.
+pub const MAX_COLUMNS: usize = 32;
+
+// The most blocks of a sheet.
+pub const MAX_BLOCKS: usize = 511;
+
 // A table row: its entries, each a stretch of glyphs, empty ones behind those that came.
 #[derive(Clone, Copy)]
 pub struct Row {
-    pub entries: [Span; 32],
+    pub entries: [Span; MAX_COLUMNS],
 }
 
 impl Row {
     pub const BLANK: Row = Row {
-        entries: [Span::EMPTY; 32],
+        entries: [Span::EMPTY; MAX_COLUMNS],
     };
 }
 
@@ -99,7 +105,7 @@ pub struct Records<'a> {
     pub glyphs: &'a mut [Glyph],
     pub lines: &'a mut [Span],
     pub rows: &'a mut [Row],
-    pub blocks: [Block; 511],
+    pub blocks: [Block; MAX_BLOCKS],
     pub used: Used,
     pub text: Stretch,
     pub table: TableAcc,

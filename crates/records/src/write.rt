@@ -2,7 +2,7 @@ ghost use Rattle.std.specs.Prelude.{◌≡◌, slice_set};
 ghost use Rattle.records.specs.Acts.{put, end_line, begin_table, end_entry, end_head, end_row, end_table};
 ghost use Rattle.records.specs.Memory.{act, up, span, added, flushed, begun, blank, blank_row, table_acc};
 
-use super::kinds::{Block, Info, Records, Row, Span, Stretch, TableAcc, Used};
+use super::kinds::{Block, Info, MAX_BLOCKS, Records, Row, Span, Stretch, TableAcc, Used};
 use glyphs::Glyph;
 use std::mem;
 
@@ -60,7 +60,7 @@ impl<'a> Records<'a> {
             glyphs,
             lines,
             rows,
-            blocks: [Block::Text(Span::EMPTY); 511],
+            blocks: [Block::Text(Span::EMPTY); MAX_BLOCKS],
             used: Used::default(),
             text: Stretch::CLEAN,
             table: TableAcc::NONE,
@@ -71,7 +71,7 @@ impl<'a> Records<'a> {
     pub fn clear(&mut self)
         ensures after { self.new ≡ blank self.old.glyphs self.old.lines self.old.rows }
     {
-        self.blocks = [Block::Text(Span::EMPTY); 511];
+        self.blocks = [Block::Text(Span::EMPTY); MAX_BLOCKS];
         self.used = Used::default();
         self.text = Stretch::CLEAN;
         self.table = TableAcc::NONE;
