@@ -62,7 +62,7 @@ fn count<R: Ruler>(load: &Load<'_, R>) -> Used
 fn within(count: u16, limit: usize, amount: Amount) -> Result<(), Refusal>
     ensures value { result ≡ within count limit amount }
 {
-    if count as usize > limit {
+    if usize::from(count) > limit {
         return Err(Refusal::Amount(amount));
     }
     Ok(())

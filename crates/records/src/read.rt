@@ -9,8 +9,8 @@ use glyphs::Glyph;
 fn part<T>(xs: &[T], span: Span) -> &[T]
     ensures value { result.now ≡ spanned xs.now span }
 {
-    let rest = xs.get(span.start as usize..).unwrap_or_default();
-    &rest[..rest.len().min(span.len as usize)]
+    let rest = xs.get(usize::from(span.start)..).unwrap_or_default();
+    &rest[..rest.len().min(usize::from(span.len))]
 }
 
 impl<'a> Records<'a> {

@@ -10,7 +10,7 @@ use std::mem;
 fn place<T: Copy>(s: &mut [T], i: u16, v: T)
     ensures after { s.new ≡ slice_set s.old i v }
 {
-    let at = i as usize;
+    let at = usize::from(i);
     if at < s.len() {
         s[at] = v;
     }
