@@ -1,25 +1,8 @@
 -- Widths in the slots of a layout.
-use Rattle.std.proofs.Common.{◌≡◌, ℕ, suc, ◌+◌, ◌-◌, ◌<◌, ◌≤◌, max, List, [], ◌∷◌, ◌++◌, map, length, get_or, take, drop, set, replicate, sym, refl, ap, ◌∙◌, append-nil, arith}
-use Rattle.std.proofs.lemmas.List.{append_assoc, set_at, length_push, length-take-le, length-map, take_more, take_at, drop_at, take_all, drop_all, drop_more, map_more, drop-replicate, places}
+use Rattle.std.proofs.Common.{◌≡◌, ℕ, ◌+◌, ◌-◌, ◌<◌, ◌≤◌, max, List, [], ◌∷◌, ◌++◌, map, length, get_or, take, drop, set, replicate, sym, refl, ap, ◌∙◌, append-nil, arith}
+use Rattle.std.proofs.lemmas.List.{append_assoc, set_at, length-take-le, length-map, take_at, drop_at, take_all, drop_all, drop_more, map_more, drop-replicate, places}
 use Rattle.shares.specs.Shares.{naturals}
 use Rattle.columns.specs.Layout.{slots}
-
--- the next free slot
-pub slots-push : (xs : List ℕ) (y : ℕ) → length xs < 32 → set (slots xs) (length xs) y ≡ slots (xs ++ (y ∷ []))
-slots-push xs y h =
-    let free : 32 - length xs ≡ suc (31 - length xs) = omega arith in
-    let left : 31 - length xs ≡ 32 - length (xs ++ (y ∷ [])) = omega (arith, length_push xs y) in
-    ap (λ n. set (xs ++ replicate n 0) (length xs) y) free
-    ∙ (set_at xs 0 (replicate (31 - length xs) 0) y (length xs) refl
-    ∙ (sym (append_assoc xs (y ∷ []) (replicate (31 - length xs) 0))
-    ∙ ap (λ n. (xs ++ (y ∷ [])) ++ replicate n 0) left))
-
--- one number more in its slot
-pub slots_more : (ns : List ℕ) (i : ℕ) → i < length ns → length ns ≤ 32 → set (slots (take i ns)) i (get_or ns i 0) ≡ slots (take (i + 1) ns)
-slots_more ns i h le =
-    let n = length-take-le i ns (omega arith) in
-    ap (λ k. set (slots (take i ns)) k (get_or ns i 0)) (sym n)
-    ∙ (slots-push (take i ns) (get_or ns i 0) (omega (arith, n)) ∙ ap slots (sym (take_more ns i 0 h)))
 
 -- one number more made at least 1
 pub raised_more : (xs ys : List ℕ) (i m : ℕ) → i < length xs → ys ≡ map (max 1) (take i xs) ++ drop i xs → m ≡ max (get_or ys i 0) 1 → set ys i m ≡ map (max 1) (take (i + 1) xs) ++ drop (i + 1) xs

@@ -8,16 +8,9 @@ use Rattle.tail.specs.Entries.{dashes, delimiter_row}
 use Rattle.tail.specs.Patches.{patched, size}
 use Rattle.tail.specs.declared.patch.Patch.{Patch}
 
-abbrev pub column : List ℕ
-column = 45 ∷ 45 ∷ 45 ∷ 124 ∷ []
-
 length-dashes : (n : ℕ) → length (dashes n) ≡ 4 * n
 length-dashes zero = refl
 length-dashes (suc n) = omega (arith, length-dashes n)
-
-dashes-push : (n : ℕ) → dashes n ++ column ≡ dashes (suc n)
-dashes-push zero = refl
-dashes-push (suc n) = ap (λ l. 45 ∷ 45 ∷ 45 ∷ 124 ∷ l) (dashes-push n)
 
 pub length_row : (n : ℕ) → length (delimiter_row n) ≡ 1 + 4 * n
 length_row n = omega (arith, length-dashes n)
