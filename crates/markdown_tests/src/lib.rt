@@ -9,6 +9,41 @@ use markdown::Markdown;
 use records::kinds::{Block, Row, Span};
 use style::{Style, Symbol};
 
+// The numbers that the tests give for kinds of events.
+const TEXT: u8 = 0;
+
+const CODE_BLOCK: u8 = 12;
+
+const PARAGRAPH: u8 = 13;
+
+const ITEM: u8 = 15;
+
+const LIST: u8 = 16;
+
+const TABLE: u8 = 17;
+
+const HEAD: u8 = 18;
+
+const ROW: u8 = 19;
+
+const CELL: u8 = 20;
+
+const CODE_BLOCK_END: u8 = 32;
+
+const PARAGRAPH_END: u8 = 33;
+
+const ITEM_END: u8 = 35;
+
+const LIST_END: u8 = 36;
+
+const TABLE_END: u8 = 37;
+
+const HEAD_END: u8 = 38;
+
+const ROW_END: u8 = 39;
+
+const CELL_END: u8 = 40;
+
 // An event that names bytes of the text.
 fn event(kind: u8, place: u32, length: u32) -> Event {
     Event {
@@ -26,15 +61,17 @@ fn table(columns: u8, end: u32) -> Event {
     Event {
         end,
         columns,
-        ..event(17, 0, 0)
+        ..event(TABLE, 0, 0)
     }
 }
 
 // Whether glyphs show these bytes, one each.
 fn shows(glyphs: &[Glyph], text: &[u8]) -> bool {
     glyphs.len() == text.len()
-        && glyphs.iter().zip(text.iter()).all(|(g, b)| g.symbol.len == 1
-            && g.symbol.bytes == u64::from(*b))
+        && glyphs
+            .iter()
+            .zip(text)
+            .all(|(g, b)| Symbol::new(&[*b]) == Some(g.symbol))
 }
 
 // The lines of a text block, none if it is no text.
@@ -84,26 +121,20 @@ mod tests {
         style: Style::PLAIN,
     };
 
-    const NOWHERE: Span = Span { start: 0, len: 0 };
-
-    const NO_ROW: Row = Row {
-        entries: [NOWHERE; 32],
-    };
-
     #[test]
     fn an_item_has_its_paragraph_behind_the_bullet(rt: HostRuntime) -> Result<(), Fail> {
         let mut glyphs = [BLANK; 16];
-        let mut lines = [NOWHERE; 4];
-        let mut rows = [NO_ROW; 1];
+        let mut lines = [Span::EMPTY; 4];
+        let mut rows = [Row::BLANK; 1];
         let mut sheet = Markdown::new(&mut glyphs, &mut lines, &mut rows);
         let events = [
-            event(16, 0, 0),
-            event(15, 0, 0),
-            event(13, 0, 0),
-            event(0, 0, 2),
-            event(33, 0, 0),
-            event(35, 0, 0),
-            event(36, 0, 0),
+            event(LIST, 0, 0),
+            event(ITEM, 0, 0),
+            event(PARAGRAPH, 0, 0),
+            event(TEXT, 0, 2),
+            event(PARAGRAPH_END, 0, 0),
+            event(ITEM_END, 0, 0),
+            event(LIST_END, 0, 0),
         ];
         sheet.load(&Bytes, &MarkdownStyles::new(), &events, b"ab", b"- ab")?;
         assert!(rt; sheet.records.blocks().len() == 1);
@@ -115,16 +146,16 @@ mod tests {
     #[test]
     fn code_stands_behind_two_spaces(rt: HostRuntime) -> Result<(), Fail> {
         let mut glyphs = [BLANK; 16];
-        let mut lines = [NOWHERE; 8];
-        let mut rows = [NO_ROW; 1];
+        let mut lines = [Span::EMPTY; 8];
+        let mut rows = [Row::BLANK; 1];
         let mut sheet = Markdown::new(&mut glyphs, &mut lines, &mut rows);
         let events = [
-            event(13, 0, 0),
-            event(0, 0, 1),
-            event(33, 0, 0),
-            event(12, 0, 0),
-            event(0, 1, 4),
-            event(32, 0, 0),
+            event(PARAGRAPH, 0, 0),
+            event(TEXT, 0, 1),
+            event(PARAGRAPH_END, 0, 0),
+            event(CODE_BLOCK, 0, 0),
+            event(TEXT, 1, 4),
+            event(CODE_BLOCK_END, 0, 0),
         ];
         sheet.load(
             &Bytes,
@@ -144,25 +175,25 @@ mod tests {
     #[test]
     fn rows_are_padded_and_the_head_comes_first(rt: HostRuntime) -> Result<(), Fail> {
         let mut glyphs = [BLANK; 16];
-        let mut lines = [NOWHERE; 2];
-        let mut rows = [NO_ROW; 2];
+        let mut lines = [Span::EMPTY; 2];
+        let mut rows = [Row::BLANK; 2];
         let mut sheet = Markdown::new(&mut glyphs, &mut lines, &mut rows);
         let events = [
             table(2, 9),
-            event(18, 0, 0),
-            event(20, 0, 0),
-            event(0, 0, 1),
-            event(40, 0, 0),
-            event(20, 0, 0),
-            event(0, 1, 1),
-            event(40, 0, 0),
-            event(38, 0, 0),
-            event(19, 0, 0),
-            event(20, 0, 0),
-            event(0, 2, 1),
-            event(40, 0, 0),
-            event(39, 0, 0),
-            event(37, 0, 0),
+            event(HEAD, 0, 0),
+            event(CELL, 0, 0),
+            event(TEXT, 0, 1),
+            event(CELL_END, 0, 0),
+            event(CELL, 0, 0),
+            event(TEXT, 1, 1),
+            event(CELL_END, 0, 0),
+            event(HEAD_END, 0, 0),
+            event(ROW, 0, 0),
+            event(CELL, 0, 0),
+            event(TEXT, 2, 1),
+            event(CELL_END, 0, 0),
+            event(ROW_END, 0, 0),
+            event(TABLE_END, 0, 0),
         ];
         sheet.load(&Bytes, &MarkdownStyles::new(), &events, b"abc", b"source")?;
         assert!(rt; sheet.records.blocks().len() == 1);
@@ -176,32 +207,31 @@ mod tests {
     #[test]
     fn a_refused_load_leaves_the_blocks(rt: HostRuntime) -> Result<(), Fail> {
         let mut glyphs = [BLANK; 2];
-        let mut lines = [NOWHERE; 1];
-        let mut rows = [NO_ROW; 1];
+        let mut lines = [Span::EMPTY; 1];
+        let mut rows = [Row::BLANK; 1];
         let mut sheet = Markdown::new(&mut glyphs, &mut lines, &mut rows);
         sheet.load(
             &Bytes,
             &MarkdownStyles::new(),
-            &[event(0, 0, 2)],
+            &[event(TEXT, 0, 2)],
             b"abc",
             b"source",
         )?;
         let Err(refusal) = sheet.load(
             &Bytes,
             &MarkdownStyles::new(),
-            &[event(0, 0, 3)],
+            &[event(TEXT, 0, 3)],
             b"xyz",
             b"source",
         ) else {
             return Err(Fail::new("admitted"));
         };
-        let (number, value) = refusal.numbered();
-        assert!(rt; number == 4 && value == 0);
+        assert_eq!(rt; refusal.numbered(), (4, 0));
         assert!(rt; has_line(&sheet, 0, 0, b"ab"));
         sheet.load(
             &Bytes,
             &MarkdownStyles::new(),
-            &[event(0, 0, 1)],
+            &[event(TEXT, 0, 1)],
             b"abc",
             b"",
         )?;
