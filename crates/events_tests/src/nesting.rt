@@ -1,7 +1,15 @@
 use super::made::*;
+use std::process::Abort;
 
 // Kinds of events, and the refusal of a list of them.
 type Case = (&'static [u8], (u8, u64));
+
+// Whether each list is answered as its case says.
+fn all_answer(rt: &impl Abort, cases: &[Case]) {
+    for (kinds, expected) in cases {
+        assert_eq!(rt; answer_to(kinds), *expected);
+    }
+}
 
 const BRACKETS: [Case; 5] = [
     (&[STRONG, EMPHASIS, EMPHASIS_END, STRONG_END], (0, 0)),
@@ -16,9 +24,7 @@ const BRACKETS: [Case; 5] = [
 
 #[test]
 fn starts_and_ends_pair_like_brackets(rt: HostRuntime) {
-    for (kinds, expected) in BRACKETS {
-        assert_eq!(rt; answer_to(kinds), expected);
-    }
+    all_answer(&rt, &BRACKETS);
 }
 
 #[test]
@@ -65,9 +71,7 @@ const PARTS: [Case; 10] = [
 
 #[test]
 fn the_parts_of_a_table_stand_directly_in_one_another(rt: HostRuntime) {
-    for (kinds, expected) in PARTS {
-        assert_eq!(rt; answer_to(kinds), expected);
-    }
+    all_answer(&rt, &PARTS);
 }
 
 const HEADS: [Case; 5] = [
@@ -88,9 +92,7 @@ const HEADS: [Case; 5] = [
 
 #[test]
 fn the_head_comes_once_and_before_every_row(rt: HostRuntime) {
-    for (kinds, expected) in HEADS {
-        assert_eq!(rt; answer_to(kinds), expected);
-    }
+    all_answer(&rt, &HEADS);
 }
 
 // Of tables with two columns.
@@ -113,9 +115,7 @@ const ENTRIES: [Case; 4] = [
 
 #[test]
 fn a_row_takes_as_many_entries_as_there_are_columns(rt: HostRuntime) {
-    for (kinds, expected) in ENTRIES {
-        assert_eq!(rt; answer_to(kinds), expected);
-    }
+    all_answer(&rt, &ENTRIES);
 }
 
 #[test]
@@ -178,7 +178,5 @@ const INLINE: [Case; 2] = [
 
 #[test]
 fn a_table_admits_styles_and_texts_outside_its_entries(rt: HostRuntime) {
-    for (kinds, expected) in INLINE {
-        assert_eq!(rt; answer_to(kinds), expected);
-    }
+    all_answer(&rt, &INLINE);
 }

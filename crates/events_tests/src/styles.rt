@@ -22,62 +22,43 @@ fn a_colour_may_be_sixteen_and_not_seventeen(rt: HostRuntime) {
         },)),
         (0, 0)
     );
-    assert_eq!(rt;
-        told(check_styles(&MarkdownStyles {
+    let bad = [
+        MarkdownStyles {
             base: past,
             ..plain
-        },)),
-        (9, 0)
-    );
-    assert_eq!(rt;
-        told(check_styles(&MarkdownStyles {
+        },
+        MarkdownStyles {
             code_inline: past,
             ..plain
-        },)),
-        (9, 1)
-    );
-    assert_eq!(rt;
-        told(check_styles(&MarkdownStyles {
+        },
+        MarkdownStyles {
             code_block: past,
             ..plain
-        },)),
-        (9, 2)
-    );
-    assert_eq!(rt;
-        told(check_styles(&MarkdownStyles {
+        },
+        MarkdownStyles {
             bold: past,
             ..plain
-        },)),
-        (9, 3)
-    );
-    assert_eq!(rt;
-        told(check_styles(&MarkdownStyles {
+        },
+        MarkdownStyles {
             italic: past,
             ..plain
-        },)),
-        (9, 4)
-    );
-    assert_eq!(rt;
-        told(check_styles(&MarkdownStyles {
+        },
+        MarkdownStyles {
             heading: past,
             ..plain
-        },)),
-        (9, 5)
-    );
-    assert_eq!(rt;
-        told(check_styles(&MarkdownStyles {
+        },
+        MarkdownStyles {
             table_border: past,
             ..plain
-        },)),
-        (9, 6)
-    );
-    assert_eq!(rt;
-        told(check_styles(&MarkdownStyles {
+        },
+        MarkdownStyles {
             table_header: past,
             ..plain
-        },)),
-        (9, 7)
-    );
+        },
+    ];
+    for (i, styles) in bad.iter().enumerate() {
+        assert_eq!(rt; told(check_styles(styles)), (9, i as u64));
+    }
 }
 
 #[test]
