@@ -34,7 +34,7 @@ pub fn read_columns(heap: Global, mut words: Words) -> Result<ColumnsCommand, Fa
 {
     let word = words.next_word().ok_or(Fault::MissingNumber)?;
     Ok(ColumnsCommand {
-        width: number(word, u16::MAX as u64, Fault::TooWide)? as u16,
+        width: number(word, u64::from(u16::MAX), Fault::TooWide)? as u16,
         growing: words.skip_word("streaming"),
         natural: read_naturals(heap, words)?,
     })
@@ -45,7 +45,7 @@ fn read_naturals(heap: Global, words: Words) -> Result<Vec<u32>, Fault>
 {
     let mut natural = Vec::new(heap);
     for word in words {
-        let n = number(word, u32::MAX as u64, Fault::TooWide)?;
+        let n = number(word, u64::from(u32::MAX), Fault::TooWide)?;
         natural.push(n as u32)?;
     }
     Ok(natural)
