@@ -9,10 +9,8 @@ use events::cursor::Cursor;
 use events::event::{Event, Kind, Tag, kind_of};
 use events::refusal::Refusal;
 use glyphs::Ruler;
+use shares::MAX_COLUMNS;
 use stack::Stack;
-
-// No table has more columns.
-pub const MAX_COLUMNS: u8 = 32;
 
 fn is_in_text(event: Event, size: usize) -> bool
     ensures value { result ≡ in_text size event }
@@ -26,7 +24,7 @@ fn is_formed(event: Event, kind: Kind, size: usize) -> bool
 {
     match kind {
         Kind::Text | Kind::Code => is_in_text(event, size),
-        Kind::Start(Tag::Table) => event.columns <= MAX_COLUMNS,
+        Kind::Start(Tag::Table) => usize::from(event.columns) <= MAX_COLUMNS,
         _ => true,
     }
 }

@@ -1,4 +1,5 @@
 use glyphs::Glyph;
+use shares::MAX_COLUMNS;
 use std::marker::Model;
 
 // A stretch of records: where it begins, and how many they are.
@@ -11,9 +12,6 @@ pub struct Span {
 impl Span {
     pub const EMPTY: Span = Span { start: 0, len: 0 };
 }
-
-// The most columns of a table, which are the entries of a row.
-pub const MAX_COLUMNS: usize = 32;
 
 // The most blocks of a sheet.
 pub const MAX_BLOCKS: usize = 511;
