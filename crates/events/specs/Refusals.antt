@@ -1,5 +1,5 @@
 -- The numbers of refusals.
-use Rattle.std.specs.Prelude.{ℕ}
+use Rattle.std.specs.Prelude.{ℕ, List, ◌++◌, codes, decimal}
 use Rattle.events.specs.declared.refusal.Amount.{Amount}
 use Rattle.events.specs.declared.refusal.Amount.TheVariants.{Glyphs, Lines, Rows, Tables}
 use Rattle.events.specs.declared.refusal.Refusal.{Refusal}
@@ -19,3 +19,7 @@ numbered (refused.Nesting event) = (2, event)
 numbered (refused.Ruler event) = (3, event)
 numbered (refused.Amount amount) = (4, amount_number amount)
 numbered (refused.Style style) = (9, style)
+
+-- A refusal as it is printed: its number, and behind a space its value.
+abbrev pub refusal_text : Refusal → List ℕ
+refusal_text e = decimal (numbered e).0 ++ (codes " " ++ decimal (numbered e).1)

@@ -1,6 +1,8 @@
 // Why a load is refused.
-ghost use Rattle.std.specs.Prelude.{◌≡◌};
-ghost use Rattle.events.specs.Refusals.{amount_number, numbered};
+ghost use Rattle.std.specs.Prelude.{◌≡◌, Some};
+ghost use Rattle.events.specs.Refusals.{amount_number, numbered, refusal_text};
+
+use std::fmt;
 
 // What a sheet keeps in limited number.
 #[derive(Clone, Copy, PartialEq, Eq, Debug)]
@@ -45,5 +47,14 @@ impl Refusal {
             Refusal::Amount(amount) => (4, amount.number()),
             Refusal::Style(style) => (9, u64::from(style)),
         }
+    }
+}
+
+impl fmt::Display for Refusal {
+    ghost output = { λ e. Some (refusal_text e) };
+
+    fn fmt<W: fmt::Write>(&self, f: &mut fmt::Formatter<W>) -> fmt::Result {
+        let (number, value) = self.numbered();
+        write!(f, "{number} {value}")
     }
 }

@@ -1,2 +1,3 @@
+pub mod Alignments
 pub mod Acts
 pub mod Memory

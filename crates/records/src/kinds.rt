@@ -1,3 +1,6 @@
+ghost use Rattle.std.specs.Prelude.{◌≡◌};
+ghost use Rattle.records.specs.Alignments.{bits, alignment};
+
 use glyphs::Glyph;
 use shares::MAX_COLUMNS;
 use std::marker::Model;
@@ -35,6 +38,38 @@ pub struct Info {
     pub columns: u8,
     pub alignments: u64,
     pub open: bool,
+}
+
+// Where an entry stands in its column.
+#[derive(Clone, Copy, PartialEq, Eq, Debug)]
+pub enum Alignment {
+    Left,
+    Centre,
+    Right,
+}
+
+impl Info {
+    // The two bits of a column's alignment; 0 for columns that have none.
+    #[tactic(auto, using(crate::proofs::Shifts::none_left))]
+    fn bits(self, column: u8) -> u64
+        ensures value { result ≡ bits self column }
+    {
+        self.alignments
+            .checked_shr(2 * u32::from(column))
+            .unwrap_or(0)
+            % 4
+    }
+
+    // Where the entries of a column stand.
+    pub fn alignment(self, column: u8) -> Alignment
+        ensures value { result ≡ alignment self column }
+    {
+        match self.bits(column) {
+            2 => Alignment::Centre,
+            3 => Alignment::Right,
+            _ => Alignment::Left,
+        }
+    }
 }
 
 // A block of the sheet: a stretch of lines, or a table with a stretch of rows, its header first.
