@@ -1,9 +1,12 @@
 // What a script has set up so far, and the commands that work on it.
 use crate::pages::{Act, Page, Part};
+use crate::sheets::{Pending, SheetMemory};
 use crate::stops::*;
 use crate::texts::{RuleName, RulerName};
-use crate::{pages, texts};
+use crate::{listing, pages, sheets, texts};
+use markdown::Markdown;
 use script::answer_line;
+use std::alloc::Global;
 use std::fmt;
 use std::str::FromStr;
 use words::{Fault, Words, text_of};
@@ -14,24 +17,66 @@ pub struct Desk {
     rule: RuleName,
     page: Option<Page>,
     window: Option<Part>,
+    pending: Pending,
 }
 
 impl Desk {
-    pub fn new() -> Desk {
+    pub fn new(heap: Global) -> Desk {
         Desk {
             ruler: RulerName::Utf8,
             rule: RuleName::Word,
             page: None,
             window: None,
+            pending: Pending::new(heap),
         }
     }
 
-    // Carries one line out, and prints its answer.
-    pub fn take(&mut self, rt: &HostRuntime, raw: &[u8]) -> Result<(), Stop> {
+    // Carries one line out, and prints its answer. Gives the memory of a new sheet where the line asks for one.
+    pub fn take(
+        &mut self,
+        rt: &HostRuntime,
+        sheet: &mut Markdown,
+        raw: &[u8],
+    ) -> Result<Option<SheetMemory>, Stop> {
         let mut words = Words::new(text_of(raw)?);
-        let Some(name) = words.next_word() else {
-            return Ok(());
-        };
+        match words.next_word() {
+            Some("memory") => return Ok(Some(sheets::memory(rt, words)?)),
+            Some(name) => self.take_load(rt, sheet, raw, name, words)?,
+            None => {}
+        }
+        Ok(None)
+    }
+
+    // The commands on the sheet.
+    fn take_load(
+        &mut self,
+        rt: &HostRuntime,
+        sheet: &mut Markdown,
+        raw: &[u8],
+        name: &str,
+        words: Words,
+    ) -> Result<(), Stop> {
+        match name {
+            "style" => self.pending.style(rt, words),
+            "text" => self.pending.text(rt, words),
+            "source" => self.pending.source(rt, words),
+            "clear" => self.pending.clear(rt, words),
+            "event" => self.pending.event(rt, words),
+            "load" => self.pending.load(rt, self.ruler, sheet, words),
+            "blocks" => listing::blocks(rt, sheet, words),
+            "outline" => listing::outline(rt, sheet, words),
+            _ => self.take_text(rt, raw, name, words),
+        }
+    }
+
+    // The commands on byte strings, and what they are measured by.
+    fn take_text(
+        &mut self,
+        rt: &HostRuntime,
+        raw: &[u8],
+        name: &str,
+        words: Words,
+    ) -> Result<(), Stop> {
         match name {
             "ruler" => set(rt, name, &mut self.ruler, words),
             "rule" => set(rt, name, &mut self.rule, words),

@@ -1,12 +1,11 @@
 // The commands on pages: a grid or a shelf, with a window over it where one is set.
 use crate::stops::*;
-use crate::texts::{last_bytes, symbol_bytes, symbol_text};
+use crate::texts::{last_bytes, push_symbol, symbol_text};
 use grid::Grid;
 use page::{Cell, Refusal, Sides, Surface, Window};
 use shelf::Shelf;
 use std::alloc::Global;
 use std::fs;
-use std::str::from_utf8;
 use style::Style;
 use words::{Fault, Words, hex_text};
 
@@ -71,7 +70,7 @@ pub fn side(words: &mut Words) -> Result<u16, Fault> {
     Ok(words.next_number(65535)? as u16)
 }
 
-fn byte(words: &mut Words) -> Result<u8, Fault> {
+pub fn byte(words: &mut Words) -> Result<u8, Fault> {
     Ok(words.next_number(255)? as u8)
 }
 
@@ -338,22 +337,8 @@ fn row_text<S: Surface>(heap: Global, page: &S, width: u16, y: u16) -> Result<St
     let mut row = String::new(heap);
     for x in 0..width {
         if let Some(cell) = page.read(x, y) {
-            push_symbol(&mut row, cell)?;
+            push_symbol(&mut row, cell.symbol)?;
         }
     }
     Ok(row)
-}
-
-// A symbol that is text without controls as it is, any other as the replacement sign.
-fn push_symbol(row: &mut String, cell: Cell) -> Result<(), Stop> {
-    let bytes = cell.symbol.to_bytes();
-    match from_utf8(symbol_bytes(&bytes, cell.symbol)) {
-        Ok(symbol) if !has_control(symbol) => row.push_str(symbol)?,
-        _ => row.push('\u{FFFD}')?,
-    }
-    Ok(())
-}
-
-fn has_control(symbol: &str) -> bool {
-    symbol.chars().any(|c| c.is_control())
 }

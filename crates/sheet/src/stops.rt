@@ -1,5 +1,4 @@
 // Why a command was not carried out: its line cannot be read, what it asks for is refused, or the output failed.
-use page::Refusal;
 use std::alloc::{AllocError, AllocFailed};
 use std::{fmt, io};
 use words::Fault;
@@ -8,10 +7,18 @@ use words::Fault;
 pub enum Stop {
     Line(Fault),
     // a command on pages, and why it is refused
-    Refused(&'static str, Refusal),
+    Refused(&'static str, page::Refusal),
+    // a load, and why it is refused
+    NotLoaded(events::refusal::Refusal),
     // a command on pages, before there is one
     NoPage(&'static str),
     Output(io::Error),
+}
+
+impl From<events::refusal::Refusal> for Stop {
+    fn from(refusal: events::refusal::Refusal) -> Stop {
+        Stop::NotLoaded(refusal)
+    }
 }
 
 impl From<Fault> for Stop {

@@ -6,7 +6,7 @@ use crate::stops::*;
 use glyphs::{Bytes, Cluster, Clusters, Glyph, Ruler, Utf8, count_glyphs, sanitize};
 use std::alloc::Global;
 use std::fmt;
-use std::str::FromStr;
+use std::str::{FromStr, from_utf8};
 use style::{Style, Symbol};
 use tail::{Refusal, cook_streaming_tail, cooked_text};
 use words::{Fault, Words, hex_text};
@@ -156,6 +156,20 @@ pub fn symbol_bytes(bytes: &[u8; 8], symbol: Symbol) -> &[u8] {
 // The bytes of a symbol as they are printed.
 pub fn symbol_text(heap: Global, symbol: Symbol) -> Result<String, Fault> {
     hex_text(heap, symbol_bytes(&symbol.to_bytes(), symbol))
+}
+
+// A symbol that is text without controls as it is, any other as the replacement sign.
+pub fn push_symbol(row: &mut String, symbol: Symbol) -> Result<(), Fault> {
+    let bytes = symbol.to_bytes();
+    match from_utf8(symbol_bytes(&bytes, symbol)) {
+        Ok(text) if !has_control(text) => row.push_str(text)?,
+        _ => row.push('\u{FFFD}')?,
+    }
+    Ok(())
+}
+
+fn has_control(symbol: &str) -> bool {
+    symbol.chars().any(|c| c.is_control())
 }
 
 pub fn rows(
