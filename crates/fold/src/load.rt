@@ -1,3 +1,4 @@
+use blank::Source;
 use events::event::Event;
 use events::styles::MarkdownStyles;
 
@@ -8,5 +9,5 @@ pub struct Load<'x, R> {
     pub styles: &'x MarkdownStyles,
     pub events: &'x [Event],
     pub text: &'x [u8],
-    pub source: &'x [u8],
+    pub source: &'x Source<'x>,
 }

@@ -1,12 +1,12 @@
 ghost use Rattle.std.specs.Prelude.{◌≡◌};
 ghost use Rattle.fold.specs.Tables.{info_of};
 
-use blank::is_blank;
+use blank::Source;
 use events::event::Event;
 use records::kinds::Info;
 
 // What a table is told at its start.
-pub fn info_of(event: Event, source: &[u8]) -> Info
+pub fn info_of(event: Event, source: &Source) -> Info
     ensures value { result ≡ info_of event source.now }
 {
     Info {
@@ -17,6 +17,6 @@ pub fn info_of(event: Event, source: &[u8]) -> Info
             event.alignments
         },
         // an end past the source counts as its length
-        open: is_blank(source.get(event.end as usize..).unwrap_or_default()),
+        open: source.is_blank_from(event.end as usize),
     }
 }

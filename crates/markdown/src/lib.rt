@@ -15,6 +15,7 @@ ghost use Rattle.parse.specs.Stands.{filled};
 ghost use Rattle.markdown.specs.Answers.{within, limited_by, answered};
 ghost use Rattle.markdown.specs.Sheets.{on_ok, empty_sheet, sheet_of, room_in, room_of, count_of, in_use, loaded, refilled};
 
+use blank::Source;
 use checks::check;
 use events::event::Event;
 use events::refusal::{Amount, Refusal};
@@ -147,12 +148,13 @@ impl<'a> Markdown<'a> {
         ensures same { is_ok result ≡ false → self.new.records ≡ self.old.records }
         ensures room { room_of self.new ≡ room_of self.old }
     {
+        let source = Source::new(source);
         let load = Load {
             ruler,
             styles,
             events,
             text,
-            source,
+            source: &source,
         };
         refill(&mut self.records, &load)?;
         self.border = styles.table_border;
