@@ -1,5 +1,5 @@
 // The commands on byte strings: measuring, glyphs, rows and the streaming tail.
-ghost use Rattle.sheet.specs.Names.{ruling_of};
+ghost use Rattle.sheet.specs.Names.{ruling_of, breaking_of};
 
 use crate::pages::side;
 use crate::stops::*;
@@ -73,6 +73,17 @@ impl FromStr for RuleName {
             "word" => Ok(RuleName::Word),
             "cutting" => Ok(RuleName::Cutting),
             _ => Err(Fault::UnknownName),
+        }
+    }
+}
+
+impl BreakingRule for RuleName {
+    ghost meaning = { breaking_of };
+
+    fn break_row(&self, line: &[Glyph], width: u16, start: usize) -> (usize, usize) {
+        match self {
+            RuleName::Word => WordRule.break_row(line, width, start),
+            RuleName::Cutting => CuttingRule.break_row(line, width, start),
         }
     }
 }
@@ -187,25 +198,17 @@ pub fn rows(
         println!(rt; "rows refused")?;
         return Ok(());
     };
-    match rule {
-        RuleName::Word => print_rows(rt, &WordRule, glyphs.as_slice(), width),
-        RuleName::Cutting => print_rows(rt, &CuttingRule, glyphs.as_slice(), width),
-    }
+    print_rows(rt, rule, glyphs.as_slice(), width)
 }
 
 // The rows of a line, each by the places where it starts and ends: an empty line is one row.
-fn print_rows<R: BreakingRule>(
-    rt: &HostRuntime,
-    rule: &R,
-    line: &[Glyph],
-    width: u16,
-) -> Result<(), Stop> {
-    let count = row_count(rule, line, width);
+fn print_rows(rt: &HostRuntime, rule: RuleName, line: &[Glyph], width: u16) -> Result<(), Stop> {
+    let count = row_count(&rule, line, width);
     let mut places = String::new(rt.alloc());
     if line.is_empty() {
         places.push_str(" 0-0")?;
     }
-    for (start, end) in Rows::new(rule, line, width) {
+    for (start, end) in Rows::new(&rule, line, width) {
         write!(places, " {start}-{end}")?;
     }
     println!(rt; "rows {width} {count}{places}")?;
