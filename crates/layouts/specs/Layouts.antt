@@ -1,6 +1,6 @@
 -- How the blocks of a sheet are laid out on a page: the widths of a table's columns, and how many rows everything takes.
 -- A table is its rows, the header first; each row is a list of entries, the leftmost first.
-use Rattle.std.specs.Prelude.{ℕ, ◌+◌, ◌-◌, max, Bool, cond, ◌&&◌, List, [], ◌∷◌, ◌++◌, map, length, sum_by, nat_eq, Option, slice_get}
+use Rattle.std.specs.Prelude.{ℕ, ◌+◌, ◌-◌, ◌≤◌, max, Bool, cond, ◌&&◌, List, [], ◌∷◌, ◌++◌, map, length, sum_by, nat_eq, Option, slice_get}
 use Rattle.shares.specs.Shares.{naturals, widths, taken}
 use Rattle.wrap_laws.specs.Breaks.{Breaking, rows}
 use Rattle.records.specs.declared.kinds.Info.{Info}
@@ -88,3 +88,7 @@ tables_of (p ∷ ps) = table_in p ++ tables_of ps
 -- The table of this number, counted from 0 among the tables alone.
 abbrev pub table_at : List Piece → ℕ → Option Table
 table_at ps n = slice_get (tables_of ps) n
+
+-- Whatever the rule and the page, these blocks take at most 59,211 rows.
+abbrev pub Low : List Piece → Type 0
+Low ps = (b : Breaking) (w : ℕ) (streaming : Bool) → total_rows b w streaming ps ≤ 59211
