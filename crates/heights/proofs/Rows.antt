@@ -1,9 +1,9 @@
 -- Rows counted against records.
 use Rattle.std.proofs.Common.{◌≡◌, ℕ, zero, suc, ◌+◌, ◌-◌, ◌*◌, ◌<◌, ◌≤◌, max, Bool, List, [], ◌∷◌, ◌&&◌, length, sum_by, refl, ap, arith}
 use Rattle.std.specs.List.{AllByRecursion as All}
+use Rattle.std.proofs.lemmas.Bool.Decides.{nat_tests}
 use Rattle.std.proofs.lemmas.List.Sums.{sum_by-cons}
 use Rattle.wrap_laws.specs.Breaks.{Breaking, rows}
-use Rattle.wrap_laws.proofs.RowCounts.{row_counts}
 use Rattle.blocks.specs.Pieces.{Line, Piece, text, table, keep, trim, settled}
 use Rattle.blocks.specs.Needs.{Needs}
 use Rattle.blocks.specs.Stands.{Within}
@@ -12,12 +12,9 @@ use Rattle.laws.specs.Accounts.{glyphs_in, glyphs_over, weigh, account, Solid}
 use Rattle.laws.specs.Stands.{stretches}
 use Rattle.laws.proofs.Books.{settles}
 use Rattle.laws.proofs.Runs.{counts_its_blocks, texts_are_solid}
+use Rattle.layouts.proofs.Counts.{rows_le}
 use Rattle.layouts.specs.Layouts.{final_widths, row_height, rule_count, text_rows, block_rows, total_rows}
 use Rattle.heights.specs.Bounds.{most_rows, LoadsAreLow}
-
--- a line has a row for each glyph at most, and one where it is empty
-rows_le : (b : Breaking) (line : Line) (w : ℕ) → rows b line w ≤ max 1 (length line)
-rows_le b line w = let k = row_counts b line w in omega arith
 
 text_le : (b : Breaking) (w : ℕ) (ls : List Line) → text_rows b w ls ≤ length ls + (glyphs_in ls - 1)
 text_le b w [] = omega arith
@@ -50,10 +47,8 @@ body_le b ws (r ∷ rs) =
     let t = body_le b ws rs in
     omega arith
 
-rules_le : (rs : List (List Line)) → rule_count rs ≤ 3
-rules_le [] = omega arith
-rules_le (r ∷ []) = omega arith
-rules_le (r ∷ s ∷ rs) = omega arith
+rules_le : (n : ℕ) → rule_count n ≤ 3
+rules_le n = grind (arith, nat_tests)
 
 -- what a block takes with the gap beside it
 block_le : (b : Breaking) (w : ℕ) (streaming : Bool) (p : Piece) → Solid p → block_rows b w streaming p + 1 ≤ (weigh p).glyphs + (weigh p).lines + (weigh p).rows + 4 * (weigh p).tables
@@ -63,7 +58,7 @@ block_le b w streaming (text ls) s =
     omega arith
 block_le b w streaming (table i rs) s =
     let h = body_le b (final_widths w (streaming && i.open) rs) rs in
-    let k = rules_le rs in
+    let k = rules_le (length rs) in
     omega arith
 
 blocks_le : (b : Breaking) (w : ℕ) (streaming : Bool) (ps : List Piece) → All Solid ps →
