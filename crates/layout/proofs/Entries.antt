@@ -1,5 +1,5 @@
 -- The entries of a row, read from the records.
-use Rattle.std.proofs.Common.{◌≡◌, ℕ, ◌+◌, ◌<◌, ◌≤◌, max, List, [], ◌∷◌, length, map, get_or, take, drop, sum_by, sym, ap, ◌∙◌, ◌⊎◌, ⊎_elim, arith}
+use Rattle.std.proofs.Common.{◌≡◌, ℕ, ◌+◌, ◌<◌, ◌≤◌, max, Bool, replicate, List, [], ◌∷◌, length, map, get_or, take, drop, sum_by, sym, ap, ◌∙◌, ◌⊎◌, ⊎_elim, arith}
 use Rattle.std.proofs.lemmas.List.{get_or-map, length-map, length-take, take-map, map_more}
 use Rattle.std.proofs.lemmas.List.Sums.{sum_by_push}
 use Rattle.glyphs.specs.declared.Glyph.{Glyph}
@@ -9,7 +9,13 @@ use Rattle.records.specs.Memory.{spanned}
 use Rattle.blocks.specs.Reads.{entries_of}
 use Rattle.wrap_laws.specs.Breaks.{Breaking, rows}
 use Rattle.blocks.specs.Pieces.{Line}
-use Rattle.layouts.specs.Layouts.{entry_width, row_height}
+use Rattle.layouts.specs.Layouts.{entry_width, wider, widest_entries, natural_widths, row_height, rows_at, table_rows}
+use Rattle.layouts.proofs.Widest.{wider-wider, widest_push, length-wider, wider_naturals}
+use Rattle.shares.specs.Shares.{naturals, widths}
+use Rattle.columns.specs.declared.ColumnLayout.{ColumnLayout}
+use Rattle.columns.specs.Layout.{slots, shared_out}
+use Rattle.columns.proofs.Slots.{take-slots}
+use Rattle.columns.proofs.Filling.{as_many}
 use Rattle.layouts.proofs.Counts.{rows_le}
 
 pub widths_long : (gs : List Glyph) (es : List Span) → length (map entry_width (map (spanned gs) es)) ≡ length es
@@ -54,3 +60,49 @@ body_step b ws gs n rs i d base all k h e f =
     let more = ap (sum_by (row_height b ws)) (map_more (entries_of gs n) rs i d h) in
     let push = sum_by_push (row_height b ws) (map (entries_of gs n) (take i rs)) (entries_of gs n (get_or rs i d)) in
     omega arith
+
+-- the columns of one row more
+pub widest_step : (gs : List Glyph) (n : ℕ) (rs : List Row) (i : ℕ) (d : Row) (ones cells more : List ℕ) → i < length rs →
+    more ≡ wider cells (map entry_width (map (spanned gs) (take n (get_or rs i d).entries))) → cells ≡ wider ones (widest_entries (map (entries_of gs n) (take i rs))) →
+    more ≡ wider ones (widest_entries (map (entries_of gs n) (take (i + 1) rs)))
+widest_step gs n rs i d ones cells more h e f =
+    let r = get_or rs i d in
+    let was = widest_entries (map (entries_of gs n) (take i rs)) in
+    e
+    ∙ (ap (λ (l : List ℕ). wider l (map entry_width (map (spanned gs) (take n r.entries)))) f
+    ∙ (ap (λ (l : List Line). wider (wider ones was) (map entry_width l)) (entries_taken gs n r)
+    ∙ (wider-wider ones was (map entry_width (entries_of gs n r))
+    ∙ (ap (wider ones) (sym (widest_push (map (entries_of gs n) (take i rs)) (entries_of gs n r)))
+    ∙ ap (λ (l : List (List Line)). wider ones (widest_entries l)) (sym (map_more (entries_of gs n) rs i d h))))))
+
+pub count_step : (gs : List Glyph) (n : ℕ) (rs : List Row) (i : ℕ) (d : Row) (count more : ℕ) → i < length rs →
+    more ≡ max count (length (take n (get_or rs i d).entries)) → count ≡ length (widest_entries (map (entries_of gs n) (take i rs))) →
+    more ≡ length (widest_entries (map (entries_of gs n) (take (i + 1) rs)))
+count_step gs n rs i d count more h e f =
+    let r = get_or rs i d in
+    let rest = map (entries_of gs n) (take i rs) in
+    let a = ap (λ (l : List (List Line)). length (widest_entries l)) (map_more (entries_of gs n) rs i d h) in
+    let b = ap length (widest_push rest (entries_of gs n r)) in
+    let c = length-wider (widest_entries rest) (map entry_width (entries_of gs n r)) in
+    let k = length-map (entries_of gs n r) entry_width in
+    let l = ap length (entries_taken gs n r) in
+    let m = length-map (take n r.entries) (spanned gs) in
+    omega arith
+
+-- the slots in use are the columns of the rows
+pub columns_used : (ws cells : List ℕ) (count w : ℕ) (growing : Bool) → count ≡ length ws → count ≤ 32 → cells ≡ wider (replicate 32 1) ws →
+    shared_out w growing (take (max count 1) cells) ≡ shared_out w growing (naturals ws)
+columns_used ws cells count w growing e h f =
+    ap (shared_out w growing)
+    (ap (take (max count 1)) f ∙ (ap (λ n. take (max n 1) (wider (replicate 32 1) ws)) e ∙ wider_naturals ws 32 (omega arith) (omega arith)))
+
+-- the widths in their slots
+widths_used : (ns slotted : List ℕ) (count w : ℕ) (growing : Bool) → slotted ≡ slots (widths w growing ns) → count ≡ length ns → take count slotted ≡ widths w growing ns
+widths_used ns slotted count w growing e f =
+    ap (take count) e ∙ take-slots (widths w growing ns) count (as_many ns w growing ∙ sym f)
+
+pub table_used : (b : Breaking) (layout : ColumnLayout) (w : ℕ) (growing : Bool) (rs : List (List Line)) (n : ℕ) → layout ≡ shared_out w growing (natural_widths rs) →
+    n ≡ rows_at b (take layout.count layout.widths) rs → n ≡ table_rows b w growing rs
+table_used b layout w growing rs n e f =
+    let used = widths_used (natural_widths rs) layout.widths layout.count w growing (ap (λ (l : ColumnLayout). l.widths) e) (ap (λ (l : ColumnLayout). l.count) e) in
+    f ∙ ap (λ ws. rows_at b ws rs) used

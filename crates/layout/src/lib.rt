@@ -12,3 +12,4 @@
 
 mod naturals;
 mod rows;
+mod tables;

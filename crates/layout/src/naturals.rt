@@ -1,9 +1,10 @@
 // The natural widths of a table's columns.
-ghost use Rattle.std.specs.Prelude.{◌≡◌, ℕ, ◌*◌, ◌^◌, ◌<◌, ◌≤◌, max, [], ◌∷◌, length, map, replicate, slice_index};
+ghost use Rattle.std.specs.Prelude.{◌≡◌, ℕ, ◌*◌, ◌^◌, ◌<◌, ◌≤◌, max, [], ◌∷◌, length, map, replicate, slice_index, take};
 ghost use Rattle.records.specs.Memory.{spanned};
+ghost use Rattle.columns.specs.Layout.{shared_out};
 ghost use Rattle.layouts.specs.Layouts.{entry_width, wider};
 
-use columns::MAX_COLUMNS;
+use columns::{ColumnLayout, MAX_COLUMNS, Widths};
 use glyphs::Glyph;
 use records::kinds::{Records, Span};
 
@@ -65,5 +66,17 @@ impl Naturals {
             self.cells[column] = self.cells[column].max(width);
         }
         self.count = self.count.max(entries.len());
+    }
+
+    // The layout of the columns on a page: one column where the rows have none.
+    #[tactic(auto, using(crate::proofs::Ones::taken_fed, crate::proofs::Ones::taken_fits))]
+    pub fn lay_out(self, width: u16, growing: bool) -> ColumnLayout
+        ensures value { result ≡ shared_out width growing (take (max self.count 1) self.cells) }
+    {
+        let mut cells = self.cells;
+        let mut columns = Widths {
+            cells: &mut cells[..self.count.max(1)],
+        };
+        columns.lay_out(width, growing)
     }
 }
