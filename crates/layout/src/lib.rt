@@ -12,4 +12,8 @@
 
 mod naturals;
 mod rows;
+mod sheets;
 mod tables;
+
+pub use sheets::{table_at, total_rows};
+pub use tables::layout_table;
