@@ -3,7 +3,7 @@ use crate::pages::{Act, Page, Part};
 use crate::sheets::{Pending, SheetMemory};
 use crate::stops::*;
 use crate::texts::{RuleName, RulerName};
-use crate::{listing, pages, sheets, texts};
+use crate::{listing, pages, questions, sheets, texts};
 use markdown::Markdown;
 use script::answer_line;
 use std::alloc::Global;
@@ -65,6 +65,8 @@ impl Desk {
             "load" => self.pending.load(rt, self.ruler, sheet, words),
             "blocks" => listing::blocks(rt, sheet, words),
             "outline" => listing::outline(rt, sheet, words),
+            "table" => questions::table(rt, self.rule, sheet, words),
+            "height" => questions::height(rt, self.rule, sheet, words),
             _ => self.take_text(rt, raw, name, words),
         }
     }

@@ -7,6 +7,7 @@
 mod desk;
 mod listing;
 mod pages;
+mod questions;
 mod sheets;
 mod stops;
 mod texts;
@@ -36,6 +37,7 @@ impl Progress {
             }
             Stop::Refused(command, refusal) => println!(rt; "{command} refused {refusal}")?,
             Stop::NotLoaded(refusal) => println!(rt; "load refused {refusal}")?,
+            Stop::NoTable(refusal) => println!(rt; "table refused {refusal}")?,
             Stop::NoPage(command) => println!(rt; "{command} no page")?,
             Stop::Output(e) => return Err(e.into()),
         }

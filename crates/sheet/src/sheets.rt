@@ -77,7 +77,7 @@ pub struct Pending {
     events: Vec<Event>,
 }
 
-fn number_32(words: &mut Words) -> Result<u32, Fault> {
+pub fn number_32(words: &mut Words) -> Result<u32, Fault> {
     Ok(words.next_number(u64::from(u32::MAX))? as u32)
 }
 

@@ -1,4 +1,5 @@
 // Why a command was not carried out: its line cannot be read, what it asks for is refused, or the output failed.
+use markdown::TableRefusal;
 use std::alloc::{AllocError, AllocFailed};
 use std::{fmt, io};
 use words::Fault;
@@ -10,6 +11,8 @@ pub enum Stop {
     Refused(&'static str, page::Refusal),
     // a load, and why it is refused
     NotLoaded(events::refusal::Refusal),
+    // a question for a table, and why it is refused
+    NoTable(TableRefusal),
     // a command on pages, before there is one
     NoPage(&'static str),
     Output(io::Error),
@@ -18,6 +21,12 @@ pub enum Stop {
 impl From<events::refusal::Refusal> for Stop {
     fn from(refusal: events::refusal::Refusal) -> Stop {
         Stop::NotLoaded(refusal)
+    }
+}
+
+impl From<TableRefusal> for Stop {
+    fn from(refusal: TableRefusal) -> Stop {
+        Stop::NoTable(refusal)
     }
 }
 
