@@ -41,7 +41,12 @@ fn print_table(
     layout: &TableLayout,
 ) -> Result<(), Stop> {
     let mut widths = String::new(rt.alloc());
-    for cells in layout.columns.widths.iter().take(usize::from(layout.columns.count)) {
+    for cells in layout
+        .columns
+        .widths
+        .iter()
+        .take(usize::from(layout.columns.count))
+    {
         write!(widths, " {cells}")?;
     }
     let taken = layout.columns.taken;
