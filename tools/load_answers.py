@@ -637,7 +637,7 @@ def nested(depth):
 
 
 def drawn():
-    """3,000 sheets of up to 7 pieces, drawn by a linear congruential generator; two times in three with
+    """20,000 sheets of up to 7 pieces, drawn by a linear congruential generator; two times in three with
     one event changed for another of the sheet."""
     state = 1
 
@@ -646,7 +646,7 @@ def drawn():
         state = (state * 6364136223846793005 + 1442695040888963407) & MASK
         return (state >> 33) % n
 
-    for _ in range(3_000):
+    for _ in range(20_000):
         events = []
         for _ in range(below(8)):
             events += events_of(PARTS[below(len(PARTS))])

@@ -2,62 +2,70 @@ use super::made::told;
 use events::{Amount, MarkdownStyles, Refusal, check_styles};
 use style::Style;
 
-#[test]
-fn a_colour_may_be_sixteen_and_not_seventeen(rt: HostRuntime) {
+// The default styles with this one in the place of each in turn.
+fn in_each_place(style: Style) -> [MarkdownStyles; 8] {
     let plain = MarkdownStyles::new();
-    assert_eq!(rt; told(check_styles(&plain)), (0, 0));
+    [
+        MarkdownStyles {
+            base: style,
+            ..plain
+        },
+        MarkdownStyles {
+            code_inline: style,
+            ..plain
+        },
+        MarkdownStyles {
+            code_block: style,
+            ..plain
+        },
+        MarkdownStyles {
+            bold: style,
+            ..plain
+        },
+        MarkdownStyles {
+            italic: style,
+            ..plain
+        },
+        MarkdownStyles {
+            heading: style,
+            ..plain
+        },
+        MarkdownStyles {
+            table_border: style,
+            ..plain
+        },
+        MarkdownStyles {
+            table_header: style,
+            ..plain
+        },
+    ]
+}
+
+#[test]
+fn a_colour_may_be_sixteen_in_each_style(rt: HostRuntime) {
+    assert_eq!(rt; told(check_styles(&MarkdownStyles::new())), (0, 0));
     let last = Style {
         fg: 16,
         bg: 16,
-        ..Style::PLAIN
+        add: 255,
+        remove: 255,
     };
-    let past = Style {
-        bg: 17,
-        ..Style::PLAIN
-    };
-    assert_eq!(rt;
-        told(check_styles(&MarkdownStyles {
-            base: last,
-            ..plain
-        },)),
-        (0, 0)
-    );
-    let bad = [
-        MarkdownStyles {
-            base: past,
-            ..plain
-        },
-        MarkdownStyles {
-            code_inline: past,
-            ..plain
-        },
-        MarkdownStyles {
-            code_block: past,
-            ..plain
-        },
-        MarkdownStyles {
-            bold: past,
-            ..plain
-        },
-        MarkdownStyles {
-            italic: past,
-            ..plain
-        },
-        MarkdownStyles {
-            heading: past,
-            ..plain
-        },
-        MarkdownStyles {
-            table_border: past,
-            ..plain
-        },
-        MarkdownStyles {
-            table_header: past,
-            ..plain
-        },
-    ];
-    for (i, styles) in bad.iter().enumerate() {
-        assert_eq!(rt; told(check_styles(styles)), (9, i as u64));
+    for styles in &in_each_place(last) {
+        assert_eq!(rt; told(check_styles(styles)), (0, 0));
+    }
+}
+
+#[test]
+fn a_colour_may_be_seventeen_in_no_style(rt: HostRuntime) {
+    for (fg, bg) in [(17, 0), (0, 17), (17, 17), (255, 16), (16, 255)] {
+        let past = Style {
+            fg,
+            bg,
+            ..Style::PLAIN
+        };
+        for (i, styles) in in_each_place(past).iter().enumerate() {
+            assert_eq!(rt; told(check_styles(styles)), (9, i as u64));
+        }
     }
 }
 

@@ -128,21 +128,21 @@ fn draw(heap: Global, generator: &mut Generator) -> Result<Vec<Event>, AllocErro
     Ok(events)
 }
 
-// The digest of three thousand drawn sheets, in memory that is too little for some.
+// The digest of twenty thousand drawn sheets, in memory that is too little for some.
 fn drawn<R: Ruler>(heap: Global, ruler: &R) -> Result<u64, AllocError> {
     let mut glyphs = [BLANK; 50];
     let mut lines = [Span::EMPTY; 16];
     let mut rows = [Row::BLANK; 4];
     let mut log = Log::new(ruler, &mut glyphs, &mut lines, &mut rows);
     let mut generator = Generator { state: 1 };
-    for _ in 0..3_000 {
+    for _ in 0..20_000 {
         log.load(draw(heap, &mut generator)?.as_slice());
     }
     Ok(log.digest())
 }
 
 #[test]
-fn three_thousand_drawn_sheets_good_and_bad(rt: HostRuntime) -> Result<(), Fail> {
+fn twenty_thousand_drawn_sheets_good_and_bad(rt: HostRuntime) -> Result<(), Fail> {
     let [bytes, utf8] = DRAWN;
     assert_eq!(rt; drawn(rt.alloc(), &Bytes)?, bytes);
     assert_eq!(rt; drawn(rt.alloc(), &Utf8)?, utf8);

@@ -6,7 +6,7 @@ use events::event::Event;
 use events::styles::MarkdownStyles;
 use glyphs::Bytes;
 use markdown::Markdown;
-use records::kinds::{Row, Span};
+use records::kinds::{Block, Row, Span};
 use std::alloc::{AllocError, Global};
 use std::test::Fail;
 
@@ -181,6 +181,39 @@ const TABLE_ROOMS: [(Room, (u8, u64)); 5] = [
 fn glyphs_are_told_before_lines_before_rows_before_tables(rt: HostRuntime) -> Result<(), Fail> {
     for (room, expected) in TABLE_ROOMS {
         assert_eq!(rt; of_tables(rt.alloc(), room, 256)?, expected);
+    }
+    Ok(())
+}
+
+// The most blocks that a sheet can have: 255 tables, and a text before each and after the last.
+fn full_sheet(heap: Global) -> Result<Vec<Event>, AllocError> {
+    let mut events = Vec::new(heap);
+    for _ in 0..255 {
+        put_steps(
+            &mut events,
+            &[(TEXT, 0, 1), (TABLE, 0, 1), (TABLE_END, 0, 0)],
+        )?;
+    }
+    put_steps(&mut events, &[(TEXT, 0, 1)])?;
+    Ok(events)
+}
+
+#[test]
+fn a_sheet_has_a_text_before_each_of_255_tables_and_after_the_last(
+    rt: HostRuntime,
+) -> Result<(), Fail> {
+    let mut glyphs = [BLANK; 256];
+    let mut lines = [Span::EMPTY; 256];
+    let mut rows = [Row::BLANK; 255];
+    let mut sheet = Markdown::new(&mut glyphs, &mut lines, &mut rows);
+    let events = full_sheet(rt.alloc())?;
+    let answer = sheet.load(&Bytes, &STYLES, events.as_slice(), b"a", b"source");
+    assert_eq!(rt; told(answer), (0, 0));
+    assert_eq!(rt; sheet.records.blocks().len(), 511);
+    for (i, block) in sheet.records.blocks().iter().enumerate() {
+        let is_text = matches!(block, Block::Text(Span { len: 1, .. }));
+        let is_table = matches!(block, Block::Table(_, Span { len: 1, .. }));
+        assert!(rt; if i % 2 == 0 { is_text } else { is_table });
     }
     Ok(())
 }
