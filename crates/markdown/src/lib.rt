@@ -12,6 +12,7 @@ ghost use Rattle.blocks.specs.Reads.{blocks_of};
 ghost use Rattle.layouts.specs.Layouts.{Low};
 
 mod loading;
+mod tables;
 
 use blank::Source;
 use events::event::Event;
@@ -19,10 +20,13 @@ use events::refusal::Refusal;
 use events::styles::MarkdownStyles;
 use fold::load::Load;
 use glyphs::{Glyph, Ruler};
+use layout::{layout_table, table_at, total_rows};
 use loading::refill;
 pub use loading::{MAX_GLYPHS, MAX_LINES, MAX_ROWS, MAX_TABLES};
 use records::kinds::{Records, Row, Span};
 use style::Style;
+pub use tables::{TableLayout, TableRefusal};
+use wrap::BreakingRule;
 
 // `streaming` tells whether the source is still arriving. It is off at the start, and nothing sets it yet.
 #[derive(Drop)]
@@ -37,6 +41,7 @@ impl<'a> Markdown<'a> {
     ghost use Rattle.std.specs.Prelude.{◌≡◌, false, length, is_ok};
     ghost use Rattle.markdown.specs.Answers.{answered};
     ghost use Rattle.markdown.specs.Sheets.{on_ok, empty_sheet, sheet_of, room_of, count_of, in_use, loaded};
+    ghost use Rattle.markdown.specs.Tables.{height_of, table_answered, table_placed};
 
     // A sheet without a block over the memory that it is lent, whose lengths are its limits.
     pub fn new(glyphs: &'a mut [Glyph], lines: &'a mut [Span], rows: &'a mut [Row]) -> Markdown<'a>
@@ -76,6 +81,44 @@ impl<'a> Markdown<'a> {
         };
         refill(&mut self.records, &load)?;
         self.border = styles.table_border;
+        Ok(())
+    }
+
+    // How many rows the sheet takes on a page of this width; none at width 0.
+    pub fn height<R: BreakingRule>(&self, rule: &R, width: u16) -> u16
+        ensures value { result ≡ height_of (R.BreakingRule.meaning rule.now) width (sheet_of self.now) }
+    {
+        if width == 0 {
+            return 0;
+        }
+        total_rows(rule, &self.records, width, self.streaming) as u16
+    }
+
+    // Fills `layout` with the layout that a table has on a page of this width, 0 allowed. The table goes
+    // by its number among the sheet's tables, from 0; where there is none, `layout` stays as it is.
+    pub fn table<R: BreakingRule>(
+        &self,
+        rule: &R,
+        number: usize,
+        width: u16,
+        layout: &mut TableLayout,
+    ) -> Result<(), TableRefusal>
+        ensures answer { result ≡ table_answered number (sheet_of self.now) }
+        ensures after { layout.new ≡ table_placed (R.BreakingRule.meaning rule.now) number width (sheet_of self.now) layout.old }
+    {
+        let (info, rows) = table_at(&self.records, number).ok_or(TableRefusal::NoTable)?;
+        let (columns, height) = layout_table(
+            rule,
+            &self.records,
+            info,
+            rows,
+            width,
+            self.streaming,
+        );
+        *layout = TableLayout {
+            columns,
+            rows: height as u16,
+        };
         Ok(())
     }
 }
