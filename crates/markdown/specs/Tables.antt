@@ -1,5 +1,5 @@
 -- What the height and the table question answer.
-use Rattle.std.specs.Prelude.{ℕ, ◌&&◌, Some, None, Option, Ok, Err, Result}
+use Rattle.std.specs.Prelude.{ℕ, List, decimal, ◌&&◌, Some, None, Option, Ok, Err, Result}
 use Rattle.wrap_laws.specs.Breaks.{Breaking}
 use Rattle.columns.specs.Layout.{shared_out, empty}
 use Rattle.layouts.specs.Layouts.{natural_widths, table_rows, height, Table, table_at}
@@ -11,6 +11,10 @@ use Rattle.markdown.specs.Sheets.{Sheet}
 -- The number of a refusal.
 abbrev pub number_of : TableRefusal → ℕ
 number_of NoTable = 10
+
+-- A refusal as it is printed: its number.
+abbrev pub refusal_text : TableRefusal → List ℕ
+refusal_text e = decimal (number_of e)
 
 -- The height of a sheet on a page of width w.
 abbrev pub height_of : Breaking → ℕ → Sheet → ℕ

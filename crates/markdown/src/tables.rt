@@ -1,7 +1,9 @@
 // The answer to a table question.
-ghost use Rattle.std.specs.Prelude.{◌≡◌};
+ghost use Rattle.std.specs.Prelude.{◌≡◌, Some};
+ghost use Rattle.markdown.specs.Tables.{refusal_text};
 
 use columns::ColumnLayout;
+use std::fmt;
 
 // How a table is laid out on a page: its columns, and its rows, rules counted.
 #[derive(Clone, Copy, Debug, PartialEq, Eq)]
@@ -41,5 +43,14 @@ impl TableRefusal {
         match self {
             TableRefusal::NoTable => 10,
         }
+    }
+}
+
+impl fmt::Display for TableRefusal {
+    ghost output = { λ e. Some (refusal_text e) };
+
+    fn fmt<W: fmt::Write>(&self, f: &mut fmt::Formatter<W>) -> fmt::Result {
+        let number = self.number();
+        write!(f, "{number}")
     }
 }

@@ -9,7 +9,7 @@ use Rattle.markdown.proofs.Markdown.load.Given.{Over}
 low : (g : Over) (c : After-refill g) → Low (blocks_of c.refill.new.records)
 low g c =
     let old = c.args.self.now.records in
-    load_low (g.R.Ruler.meaning c.args.ruler.now) c.args.styles.now c.args.text.now c.args.source.now c.args.events.now (length old.glyphs) (length old.lines) (length old.rows)
+    load_low (g.R.Ruler.meaning c.args.ruler.now) c.args.styles.now c.args.text.now c.new-source.result c.args.events.now (length old.glyphs) (length old.lines) (length old.rows)
     c.refill.result (blocks_of old) (blocks_of c.refill.new.records) c.refill.ensures.answer c.refill.ensures.blocks c.args.self.now.low
 
 pub invariant_of-self : goal.invariant_of-self
