@@ -9,14 +9,14 @@ use Rattle.records.specs.Memory.{spanned}
 use Rattle.blocks.specs.Reads.{entries_of}
 use Rattle.wrap_laws.specs.Breaks.{Breaking, rows}
 use Rattle.blocks.specs.Pieces.{Line}
-use Rattle.layouts.specs.Layouts.{entry_width, wider, widest_entries, natural_widths, row_height, rows_at, table_rows}
-use Rattle.layouts.proofs.Widest.{wider-wider, widest_push, length-wider, wider_naturals}
+use Rattle.layout_laws.specs.Layouts.{entry_width, wider, widest_entries, natural_widths, row_height, rows_at, table_rows}
+use Rattle.layout_laws.proofs.Widest.{wider-wider, widest_push, length-wider, wider_naturals}
 use Rattle.shares.specs.Shares.{naturals, widths}
 use Rattle.columns.specs.declared.ColumnLayout.{ColumnLayout}
 use Rattle.columns.specs.Layout.{slots, shared_out}
 use Rattle.columns.proofs.Slots.{take-slots}
 use Rattle.columns.proofs.Filling.{as_many}
-use Rattle.layouts.proofs.Counts.{rows_le}
+use Rattle.layout_laws.proofs.Counts.{rows_le}
 
 pub widths_long : (gs : List Glyph) (es : List Span) → length (map entry_width (map (spanned gs) es)) ≡ length es
 widths_long gs es = length-map (map (spanned gs) es) entry_width ∙ length-map es (spanned gs)

@@ -4,7 +4,7 @@ use Rattle.records.specs.declared.kinds.Info.{Info}
 use Rattle.records.specs.declared.kinds.Span.{Span}
 use Rattle.records.specs.Memory.{Memory, spanned}
 use Rattle.blocks.specs.Reads.{entries_of}
-use Rattle.layouts.specs.Layouts.{Table}
+use Rattle.layout_laws.specs.Layouts.{Table}
 
 -- The table that was told this and has these rows.
 abbrev pub table_of : Memory → Info × Span → Table

@@ -2,7 +2,7 @@
 ghost use Rattle.std.specs.Prelude.{◌≡◌, ℕ, ◌*◌, ◌^◌, ◌<◌, ◌≤◌, max, [], ◌∷◌, length, map, replicate, slice_index, take};
 ghost use Rattle.records.specs.Memory.{spanned};
 ghost use Rattle.columns.specs.Layout.{shared_out};
-ghost use Rattle.layouts.specs.Layouts.{entry_width, wider};
+ghost use Rattle.layout_laws.specs.Layouts.{entry_width, wider};
 
 use columns::{ColumnLayout, MAX_COLUMNS, Widths};
 use glyphs::Glyph;

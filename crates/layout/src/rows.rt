@@ -3,7 +3,7 @@ ghost use Rattle.std.specs.Prelude.{◌≡◌, ◌^◌, ◌<◌, ◌≤◌, leng
 ghost use Rattle.records.specs.Memory.{spanned};
 ghost use Rattle.blocks.specs.Reads.{entries_of};
 ghost use Rattle.wrap_laws.specs.Breaks.{rows};
-ghost use Rattle.layouts.specs.Layouts.{row_height, rule_count, rows_at, text_rows};
+ghost use Rattle.layout_laws.specs.Layouts.{row_height, rule_count, rows_at, text_rows};
 
 use records::kinds::{Records, Row, Span};
 use wrap::{BreakingRule, row_count};

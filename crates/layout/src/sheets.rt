@@ -2,7 +2,7 @@
 ghost use Rattle.std.specs.Prelude.{◌≡◌, ◌-◌, ◌^◌, ◌<◌, length, map};
 ghost use Rattle.std.specs.Option.{option_map};
 ghost use Rattle.blocks.specs.Reads.{piece_of, blocks_of};
-ghost use Rattle.layouts.specs.Layouts.{block_rows, total_rows, table_at};
+ghost use Rattle.layout_laws.specs.Layouts.{block_rows, total_rows, table_at};
 ghost use Rattle.layout.specs.Reads.{table_of};
 
 use super::rows::text_rows;

@@ -3,7 +3,7 @@ ghost use Rattle.std.specs.Prelude.{◌≡◌, ◌&&◌, length, map, replicate,
 ghost use Rattle.columns.specs.Layout.{shared_out};
 ghost use Rattle.records.specs.Memory.{spanned};
 ghost use Rattle.blocks.specs.Reads.{entries_of};
-ghost use Rattle.layouts.specs.Layouts.{wider, widest_entries, natural_widths, table_rows};
+ghost use Rattle.layout_laws.specs.Layouts.{wider, widest_entries, natural_widths, table_rows};
 
 use super::naturals::Naturals;
 use super::rows::{entries_of, rows_at};

@@ -6,8 +6,8 @@ use Rattle.records.specs.declared.kinds.Info.{Info}
 use Rattle.records.specs.declared.kinds.Span.{Span}
 use Rattle.records.specs.Memory.{Memory, spanned}
 use Rattle.blocks.specs.Reads.{blocks_of, entries_of}
-use Rattle.layouts.specs.Layouts.{table_rows, table_at, Low}
-use Rattle.layouts.proofs.Counts.{table_low}
+use Rattle.layout_laws.specs.Layouts.{table_rows, table_at, Low}
+use Rattle.layout_laws.proofs.Counts.{table_low}
 use Rattle.layout.specs.Reads.{table_of}
 
 -- the rows of a table that was found in a sheet

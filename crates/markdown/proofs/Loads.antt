@@ -16,8 +16,8 @@ use Rattle.records.specs.declared.kinds.Used.{Used}
 use Rattle.records.specs.Memory.{Memory}
 use Rattle.blocks.specs.Needs.{Needs}
 use Rattle.blocks.specs.Pieces.{Piece}
-use Rattle.layouts.specs.Layouts.{Low}
-use Rattle.heights.proofs.Rows.{loads_are_low}
+use Rattle.layout_laws.specs.Layouts.{Low}
+use Rattle.height_laws.proofs.Rows.{loads_are_low}
 use Rattle.blocks.proofs.Counts.{same_needs}
 use Rattle.blocks.specs.Reads.{blocks_of}
 use Rattle.blocks.specs.Stands.{Within}

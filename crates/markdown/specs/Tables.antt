@@ -2,7 +2,7 @@
 use Rattle.std.specs.Prelude.{ℕ, List, decimal, ◌&&◌, Some, None, Option, Ok, Err, Result}
 use Rattle.wrap_laws.specs.Breaks.{Breaking}
 use Rattle.columns.specs.Layout.{shared_out, empty}
-use Rattle.layouts.specs.Layouts.{natural_widths, table_rows, height, Table, table_at}
+use Rattle.layout_laws.specs.Layouts.{natural_widths, table_rows, height, Table, table_at}
 use Rattle.markdown.specs.declared.tables.TableLayout.{TableLayout}
 use Rattle.markdown.specs.declared.tables.TableRefusal.{TableRefusal}
 use Rattle.markdown.specs.declared.tables.TableRefusal.TheVariants.{NoTable}

@@ -9,7 +9,7 @@
 #![tactic(auto)]
 
 ghost use Rattle.blocks.specs.Reads.{blocks_of};
-ghost use Rattle.layouts.specs.Layouts.{Low};
+ghost use Rattle.layout_laws.specs.Layouts.{Low};
 
 mod loading;
 mod tables;

@@ -1,5 +1,5 @@
 use Rattle.std.proofs.Common.{◌≡◌, ◌*◌, ◌≤◌, take}
-use Rattle.layouts.specs.Layouts.{entry_width}
+use Rattle.layout_laws.specs.Layouts.{entry_width}
 use Rattle.layout.proofs.naturals.width_of.Given as goal
 
 abbrev pub invariant-loop-glyph : goal.invariant-loop-glyph

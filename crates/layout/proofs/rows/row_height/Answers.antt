@@ -1,6 +1,6 @@
 use Rattle.std.proofs.Common.{map, inl, inr, ⊎_elim, arith}
 use Rattle.records.specs.Memory.{spanned}
-use Rattle.layouts.specs.Layouts.{row_height}
+use Rattle.layout_laws.specs.Layouts.{row_height}
 use Rattle.layout.proofs.Entries.{height_some, height_step, height_end}
 use Rattle.layout.proofs.rows.row_height.Goals as goal
 

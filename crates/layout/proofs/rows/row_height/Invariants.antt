@@ -1,6 +1,6 @@
 use Rattle.std.proofs.Common.{◌≡◌, ◌≤◌, max, map}
 use Rattle.records.specs.Memory.{spanned}
-use Rattle.layouts.specs.Layouts.{row_height}
+use Rattle.layout_laws.specs.Layouts.{row_height}
 use Rattle.layout.proofs.rows.row_height.Given as goal
 
 -- the entries so far, with those that are left

@@ -1,6 +1,6 @@
 use Rattle.std.proofs.Common.{◌≡◌, ◌+◌, ◌*◌, ◌≤◌, length, map, take, sum_by}
 use Rattle.blocks.specs.Reads.{entries_of}
-use Rattle.layouts.specs.Layouts.{row_height, rule_count}
+use Rattle.layout_laws.specs.Layouts.{row_height, rule_count}
 use Rattle.layout.proofs.rows.rows_at.Given as goal
 
 abbrev pub invariant-loop-row : goal.invariant-loop-row

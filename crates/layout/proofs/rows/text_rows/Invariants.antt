@@ -1,6 +1,6 @@
 use Rattle.std.proofs.Common.{◌≡◌, ◌*◌, ◌≤◌, map, take}
 use Rattle.records.specs.Memory.{spanned}
-use Rattle.layouts.specs.Layouts.{text_rows}
+use Rattle.layout_laws.specs.Layouts.{text_rows}
 use Rattle.layout.proofs.rows.text_rows.Given as goal
 
 abbrev pub invariant-loop-line : goal.invariant-loop-line

@@ -1,6 +1,6 @@
 use Rattle.std.proofs.Common.{◌≡◌, ◌+◌, ◌-◌, ◌*◌, ◌≤◌, length, map, take, sum_by}
 use Rattle.blocks.specs.Reads.{piece_of}
-use Rattle.layouts.specs.Layouts.{block_rows}
+use Rattle.layout_laws.specs.Layouts.{block_rows}
 use Rattle.layout.proofs.sheets.rows_of.Given as goal
 
 abbrev pub invariant-loop-block : goal.invariant-loop-block

@@ -1,6 +1,6 @@
 use Rattle.std.proofs.Common.{◌≡◌, map, drop, slice_get}
 use Rattle.blocks.specs.Reads.{piece_of}
-use Rattle.layouts.specs.Layouts.{tables_of}
+use Rattle.layout_laws.specs.Layouts.{tables_of}
 use Rattle.layout.proofs.sheets.table_at.Given as goal
 
 -- the table is the one that is left among those of the blocks that are left

@@ -1,6 +1,6 @@
 use Rattle.std.proofs.Common.{◌≡◌, length, map, take, replicate}
 use Rattle.blocks.specs.Reads.{entries_of}
-use Rattle.layouts.specs.Layouts.{wider, widest_entries}
+use Rattle.layout_laws.specs.Layouts.{wider, widest_entries}
 use Rattle.layout.proofs.tables.naturals_of.Given as goal
 
 abbrev pub invariant-loop-row : goal.invariant-loop-row

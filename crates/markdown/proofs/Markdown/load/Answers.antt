@@ -1,6 +1,6 @@
 use Rattle.std.proofs.Common.{length}
 use Rattle.blocks.specs.Reads.{blocks_of}
-use Rattle.layouts.specs.Layouts.{Low}
+use Rattle.layout_laws.specs.Layouts.{Low}
 use Rattle.markdown.proofs.Loads.{load_low}
 use Rattle.markdown.proofs.Markdown.load.Goals as goal
 use Rattle.markdown.proofs.Markdown.load.Goals.{After-refill}

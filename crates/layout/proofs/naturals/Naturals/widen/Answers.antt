@@ -1,6 +1,6 @@
 use Rattle.std.proofs.Common.{arith}
-use Rattle.layouts.specs.Layouts.{entry_width}
-use Rattle.layouts.proofs.Widest.{wider_more}
+use Rattle.layout_laws.specs.Layouts.{entry_width}
+use Rattle.layout_laws.proofs.Widest.{wider_more}
 use Rattle.records.specs.Memory.{spanned}
 use Rattle.std.proofs.Common.{map}
 use Rattle.layout.proofs.Entries.{widths_long, width_at}

@@ -1,6 +1,6 @@
 use Rattle.std.proofs.Common.{◌≡◌, map, take}
 use Rattle.records.specs.Memory.{spanned}
-use Rattle.layouts.specs.Layouts.{entry_width, wider}
+use Rattle.layout_laws.specs.Layouts.{entry_width, wider}
 use Rattle.layout.proofs.naturals.Naturals.widen.Given as goal
 
 abbrev pub invariant-loop-column : goal.invariant-loop-column

@@ -4,7 +4,7 @@ use Rattle.std.proofs.lemmas.List.Sums.{sum_by-cons}
 use Rattle.wrap_laws.specs.Breaks.{Breaking, rows}
 use Rattle.wrap_laws.proofs.RowCounts.{row_counts}
 use Rattle.blocks.specs.Pieces.{Line, Piece, text, table}
-use Rattle.layouts.specs.Layouts.{table_rows, block_rows, Table, table_at, Low}
+use Rattle.layout_laws.specs.Layouts.{table_rows, block_rows, Table, table_at, Low}
 
 -- a line has a row for each glyph at most, and one where it is empty
 pub rows_le : (b : Breaking) (line : Line) (w : ℕ) → rows b line w ≤ max 1 (length line)

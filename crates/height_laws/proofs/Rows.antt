@@ -12,9 +12,9 @@ use Rattle.laws.specs.Accounts.{glyphs_in, glyphs_over, weigh, account, Solid}
 use Rattle.laws.specs.Stands.{stretches}
 use Rattle.laws.proofs.Books.{settles}
 use Rattle.laws.proofs.Runs.{counts_its_blocks, texts_are_solid}
-use Rattle.layouts.proofs.Counts.{rows_le}
-use Rattle.layouts.specs.Layouts.{final_widths, row_height, rule_count, text_rows, block_rows, total_rows}
-use Rattle.heights.specs.Bounds.{most_rows, LoadsAreLow}
+use Rattle.layout_laws.proofs.Counts.{rows_le}
+use Rattle.layout_laws.specs.Layouts.{final_widths, row_height, rule_count, text_rows, block_rows, total_rows}
+use Rattle.height_laws.specs.Bounds.{most_rows, LoadsAreLow}
 
 text_le : (b : Breaking) (w : ℕ) (ls : List Line) → text_rows b w ls ≤ length ls + (glyphs_in ls - 1)
 text_le b w [] = omega arith

@@ -6,7 +6,7 @@
 
 #![tactic(auto)]
 
-ghost use Rattle.heights.specs.Bounds.{RowsFollowRecords, LoadsAreLow};
+ghost use Rattle.height_laws.specs.Bounds.{RowsFollowRecords, LoadsAreLow};
 
 pub fn height_laws()
     ensures records { RowsFollowRecords }

@@ -11,7 +11,7 @@ use Rattle.shares.proofs.Wider.{widths_wider}
 use Rattle.wrap_laws.specs.Breaks.{Breaking, rows}
 use Rattle.wrap_laws.proofs.RowCounts.{wider_no_more_rows}
 use Rattle.blocks.specs.Pieces.{Line, Piece, text, table}
-use Rattle.layouts.specs.Layouts.{natural_widths, widest_entries, final_widths, row_height, table_rows, text_rows, block_rows, height}
+use Rattle.layout_laws.specs.Layouts.{natural_widths, widest_entries, final_widths, row_height, table_rows, text_rows, block_rows, height}
 
 -- every column keeps a cell
 fed_stretched : (s : ℕ) (ws : List ℕ) → Fed ws → Fed (stretched s ws)

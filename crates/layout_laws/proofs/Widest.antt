@@ -3,7 +3,7 @@ use Rattle.std.proofs.Common.{◌≡◌, ℕ, zero, suc, ◌+◌, ◌<◌, ◌�
 use Rattle.std.proofs.lemmas.List.{length-take, get_or_past}
 use Rattle.shares.specs.Shares.{naturals}
 use Rattle.blocks.specs.Pieces.{Line}
-use Rattle.layouts.specs.Layouts.{entry_width, wider, widest_entries}
+use Rattle.layout_laws.specs.Layouts.{entry_width, wider, widest_entries}
 
 pub wider_none : (ws : List ℕ) → wider ws [] ≡ ws
 wider_none [] = refl

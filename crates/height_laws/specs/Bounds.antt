@@ -11,7 +11,7 @@ use Rattle.blocks.specs.Needs.{Needs}
 use Rattle.blocks.specs.Stands.{Within}
 use Rattle.parse.specs.Sketches.{parsed, needed}
 use Rattle.laws.specs.Accounts.{account, Solid}
-use Rattle.layouts.specs.Layouts.{total_rows, Low}
+use Rattle.layout_laws.specs.Layouts.{total_rows, Low}
 
 -- A row for each glyph, line and table row, and four for each table (three rules, and a gap beside it), less one.
 abbrev pub most_rows : Needs → ℕ

@@ -1,0 +1,5 @@
+use Rattle.height_laws.proofs.Rows.{rows_follow_records, loads_are_low}
+use Rattle.height_laws.proofs.height_laws.Goals as goal
+
+pub returns : goal.returns
+returns c = record { records = rows_follow_records; loads = loads_are_low }
