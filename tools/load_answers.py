@@ -57,7 +57,7 @@ STYLES = {
     "code_block": Style(3, 16, 8, 0),
     "bold": Style(0, 5, 16, 2),
     "italic": Style(6, 0, 32, 1),
-    "heading": Style(7, 0, 65, 4),
+    "heading": Style(7, 0, 65, 2),
     "table_border": Style(9, 0, 0, 0),
     "table_header": Style(0, 10, 128, 32),
 }
@@ -637,22 +637,23 @@ def nested(depth):
 
 
 def drawn():
-    """20,000 sheets of up to 7 pieces, drawn by a linear congruential generator; two times in three with
-    one event changed for another of the sheet."""
+    """20,000 sheets of up to seven pieces, drawn by a linear congruential generator, with up to three events
+    changed for others of the same sheet."""
     state = 1
 
     def below(n):
         nonlocal state
         state = (state * 6364136223846793005 + 1442695040888963407) & MASK
-        return (state >> 33) % n
+        return (state >> 33) % n if n else 0
 
     for _ in range(20_000):
         events = []
         for _ in range(below(8)):
             events += events_of(PARTS[below(len(PARTS))])
-        if below(3) > 0 and events:
-            into = below(len(events))
-            events[into] = events[below(len(events))]
+        for _ in range(below(4)):
+            place, other = below(len(events)), below(len(events))
+            if events:
+                events[place] = events[other]
         yield events
 
 

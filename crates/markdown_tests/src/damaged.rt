@@ -109,21 +109,26 @@ impl Generator {
         let at = self.below(from.len() as u64);
         from.get(at as usize).copied()
     }
+
+    // Changes one event for another of these.
+    fn change(&mut self, events: &mut [Event]) {
+        let place = self.below(events.len() as u64) as usize;
+        let other = self.one(events).unwrap_or(event(OTHER));
+        if place < events.len() {
+            events[place] = other;
+        }
+    }
 }
 
-// Draws a sheet of up to seven pieces, two times in three with one event changed for another of them.
+// Draws a sheet of up to seven pieces, and changes up to three events for others of them.
 fn draw(heap: Global, generator: &mut Generator) -> Result<Vec<Event>, AllocError> {
     let mut events = Vec::new(heap);
     for _ in 0..generator.below(8) {
         let piece = generator.one(&PIECES).unwrap_or(&[]);
         put_steps(&mut events, piece)?;
     }
-    if generator.below(3) > 0 && !events.is_empty() {
-        let place = generator.below(events.len() as u64) as usize;
-        let other = generator.one(events.as_slice()).unwrap_or(event(OTHER));
-        if place < events.len() {
-            events[place] = other;
-        }
+    for _ in 0..generator.below(4) {
+        generator.change(events.as_mut_slice());
     }
     Ok(events)
 }

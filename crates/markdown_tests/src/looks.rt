@@ -1,6 +1,7 @@
 // What stands on a sheet, glyph by glyph: the styles in force, and what the rulers make of odd texts.
 
 use super::made::*;
+use events::styles::MarkdownStyles;
 use glyphs::{Bytes, Glyph, Ruler, Utf8};
 use markdown::Markdown;
 use records::kinds::{Block, Row, Span};
@@ -18,7 +19,7 @@ const BASE: Look = (1, 0, 4, 0);
 
 const BOLD: Look = (1, 5, 21, 2);
 
-const TITLE: Look = (7, 0, 65, 4);
+const TITLE: Look = (7, 0, 65, 2);
 
 const INLINE: Look = (4, 2, 0, 1);
 
@@ -51,6 +52,7 @@ fn last_place(sheet: &Markdown, block: Block) -> Option<Span> {
 fn ends<R: Ruler>(
     heap: Global,
     ruler: &R,
+    styles: &MarkdownStyles,
     steps: &[Step],
     text: &[u8],
     signs: &[Sign],
@@ -60,7 +62,7 @@ fn ends<R: Ruler>(
     let mut rows = [Row::BLANK; 3];
     let mut sheet = Markdown::new(&mut glyphs, &mut lines, &mut rows);
     let events = joined(heap, steps, &[])?;
-    let answer = sheet.load(ruler, &STYLES, events.as_slice(), text, b"source");
+    let answer = sheet.load(ruler, styles, events.as_slice(), text, b"source");
     let place = sheet
         .records
         .blocks()
@@ -156,7 +158,7 @@ const STYLED: [Case; 9] = [
             (TABLE_END, 0, 0),
             (HEADING_END, 0, 0),
         ],
-        &[(b"a", 1, (7, 5, 209, 38)), (b" ", 1, (7, 10, 193, 36))],
+        &[(b"a", 1, (7, 5, 209, 34)), (b" ", 1, (7, 10, 193, 34))],
     ),
     // a row has no style of its own, also in a code block
     (
@@ -178,8 +180,34 @@ const STYLED: [Case; 9] = [
 #[test]
 fn styles_lie_over_one_another_as_the_marks_stand(rt: HostRuntime) -> Result<(), Fail> {
     for (steps, signs) in &STYLED {
-        assert!(rt; ends(rt.alloc(), &Utf8, steps, b"abcd", signs)?);
+        assert!(rt; ends(rt.alloc(), &Utf8, &STYLES, steps, b"abcd", signs)?);
     }
+    Ok(())
+}
+
+#[test]
+fn a_style_takes_away_what_its_mark_adds(rt: HostRuntime) -> Result<(), Fail> {
+    let styles = MarkdownStyles {
+        bold: Style {
+            remove: 1,
+            ..Style::PLAIN
+        },
+        italic: Style {
+            remove: 2,
+            ..Style::PLAIN
+        },
+        ..STYLES
+    };
+    let steps = [
+        (STRONG, 0, 0),
+        (EMPHASIS, 0, 0),
+        (TEXT, 0, 1),
+        (EMPHASIS_END, 0, 0),
+        (SOFT_BREAK, 0, 0),
+        (STRONG_END, 0, 0),
+    ];
+    let signs = [(b"a".as_slice(), 1, (1, 0, 4, 3)), (b" ", 1, (1, 0, 4, 1))];
+    assert!(rt; ends(rt.alloc(), &Utf8, &styles, &steps, b"abcd", &signs)?);
     Ok(())
 }
 
@@ -226,7 +254,7 @@ fn a_tab_is_four_spaces_and_no_width_is_the_replacement_character(
 ) -> Result<(), Fail> {
     for (text, signs) in &ODD {
         let steps = [(TEXT, 0, text.len().min(99) as u8)];
-        assert!(rt; ends(rt.alloc(), &Utf8, &steps, text, signs)?);
+        assert!(rt; ends(rt.alloc(), &Utf8, &STYLES, &steps, text, signs)?);
     }
     Ok(())
 }
@@ -241,8 +269,26 @@ fn each_byte_outside_ascii_is_the_replacement_character_to_the_byte_ruler(
         (SIGN, 1, BASE),
         (b"~", 1, BASE),
     ];
-    assert!(rt; ends(rt.alloc(), &Bytes, &[(TEXT, 0, 4)], b"a\xc3\xa9~", &signs)?);
-    assert!(rt; ends(rt.alloc(), &Bytes, &[(TEXT, 0, 4)], b"a\x00\xff~", &signs)?);
+    assert!(rt;
+        ends(
+            rt.alloc(),
+            &Bytes,
+            &STYLES,
+            &[(TEXT, 0, 4)],
+            b"a\xc3\xa9~",
+            &signs
+        )?
+    );
+    assert!(rt;
+        ends(
+            rt.alloc(),
+            &Bytes,
+            &STYLES,
+            &[(TEXT, 0, 4)],
+            b"a\x00\xff~",
+            &signs
+        )?
+    );
     Ok(())
 }
 
@@ -255,7 +301,7 @@ fn a_line_feed_that_ends_no_line_is_the_replacement_character(rt: HostRuntime) -
         (SIGN, 1, INLINE),
         (b"b", 1, INLINE),
     ];
-    assert!(rt; ends(rt.alloc(), &Utf8, &code, b"a\nb", &inline)?);
+    assert!(rt; ends(rt.alloc(), &Utf8, &STYLES, &code, b"a\nb", &inline)?);
     let entry = [
         (TABLE, 0, 1),
         (ROW, 0, 0),
@@ -266,11 +312,12 @@ fn a_line_feed_that_ends_no_line_is_the_replacement_character(rt: HostRuntime) -
         (TABLE_END, 0, 0),
     ];
     let plain = [(b"a".as_slice(), 1, BASE), (SIGN, 1, BASE), (b"b", 1, BASE)];
-    assert!(rt; ends(rt.alloc(), &Utf8, &entry, b"a\nb", &plain)?);
+    assert!(rt; ends(rt.alloc(), &Utf8, &STYLES, &entry, b"a\nb", &plain)?);
     assert!(rt;
         ends(
             rt.alloc(),
             &Utf8,
+            &STYLES,
             &[(TEXT, 0, 3)],
             b"a\nb",
             &[(b"b", 1, BASE)]

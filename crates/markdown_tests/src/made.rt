@@ -141,7 +141,7 @@ pub const STYLES: MarkdownStyles = MarkdownStyles {
         fg: 7,
         bg: 0,
         add: 65,
-        remove: 4,
+        remove: 2,
     },
     table_border: Style {
         fg: 9,
