@@ -67,6 +67,7 @@ impl Desk {
             "outline" => listing::outline(rt, sheet, words),
             "table" => questions::table(rt, self.rule, sheet, words),
             "height" => questions::height(rt, self.rule, sheet, words),
+            "paint" => self.act(rt, "paint", pages::read_paint(sheet, self.rule, words)?),
             _ => self.take_text(rt, raw, name, words),
         }
     }
@@ -138,7 +139,7 @@ impl Desk {
         }
     }
 
-    fn act(&mut self, rt: &HostRuntime, name: &'static str, act: Act) -> Result<(), Stop> {
+    fn act(&mut self, rt: &HostRuntime, name: &'static str, act: Act<'_, '_>) -> Result<(), Stop> {
         let page = self.page.as_mut().ok_or(Stop::NoPage(name))?;
         page.act(rt, self.window, act)
     }

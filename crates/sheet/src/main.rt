@@ -38,6 +38,7 @@ impl Progress {
             Stop::Refused(command, refusal) => println!(rt; "{command} refused {refusal}")?,
             Stop::NotLoaded(refusal) => println!(rt; "load refused {refusal}")?,
             Stop::NoTable(refusal) => println!(rt; "table refused {refusal}")?,
+            Stop::NotPainted(refusal) => println!(rt; "paint refused {refusal}")?,
             Stop::NoPage(command) => println!(rt; "{command} no page")?,
             Stop::Output(e) => return Err(e.into()),
         }

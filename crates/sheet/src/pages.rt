@@ -1,7 +1,9 @@
 // The commands on pages: a grid or a shelf, with a window over it where one is set.
 use crate::stops::*;
-use crate::texts::{last_bytes, push_symbol, symbol_text};
+use crate::texts::{RuleName, last_bytes, push_symbol, symbol_text};
+use drawings::Area;
 use grid::Grid;
+use markdown::Markdown;
 use page::{Cell, Refusal, Sides, Surface, Window};
 use shelf::Shelf;
 use std::alloc::Global;
@@ -51,11 +53,20 @@ impl Part {
 
 // What is done on a page, through its window.
 #[derive(Drop)]
-pub enum Act {
+pub enum Act<'s, 'm> {
     Put(Put),
     Read(u16, u16),
     Cells,
     Show,
+    Paint(Painting<'s, 'm>),
+}
+
+// A sheet, the rule by which it breaks, and the area in which it is painted.
+#[derive(Clone, Copy)]
+pub struct Painting<'s, 'm> {
+    sheet: &'s Markdown<'m>,
+    rule: RuleName,
+    area: Area,
 }
 
 #[derive(Drop)]
@@ -208,7 +219,7 @@ pub fn read_window(rt: &HostRuntime, mut words: Words) -> Result<Option<Part>, S
     }))
 }
 
-pub fn read_put(heap: Global, mut words: Words) -> Result<Act, Fault> {
+pub fn read_put<'s, 'm>(heap: Global, mut words: Words) -> Result<Act<'s, 'm>, Fault> {
     let x = side(&mut words)?;
     let y = side(&mut words)?;
     let symbol = words.next_bytes(heap)?;
@@ -227,16 +238,36 @@ pub fn read_put(heap: Global, mut words: Words) -> Result<Act, Fault> {
     }))
 }
 
-pub fn read_read(mut words: Words) -> Result<Act, Fault> {
+pub fn read_read<'s, 'm>(mut words: Words) -> Result<Act<'s, 'm>, Fault> {
     let x = side(&mut words)?;
     let y = side(&mut words)?;
     words.end()?;
     Ok(Act::Read(x, y))
 }
 
+pub fn read_paint<'s, 'm>(
+    sheet: &'s Markdown<'m>,
+    rule: RuleName,
+    mut words: Words,
+) -> Result<Act<'s, 'm>, Fault> {
+    let area = Area {
+        x: side(&mut words)?,
+        y: side(&mut words)?,
+        width: side(&mut words)?,
+        height: side(&mut words)?,
+    };
+    words.end()?;
+    Ok(Act::Paint(Painting { sheet, rule, area }))
+}
+
 impl Page {
     // Does it on the page, through the window where one is set.
-    pub fn act(&mut self, rt: &HostRuntime, window: Option<Part>, act: Act) -> Result<(), Stop> {
+    pub fn act(
+        &mut self,
+        rt: &HostRuntime,
+        window: Option<Part>,
+        act: Act<'_, '_>,
+    ) -> Result<(), Stop> {
         let Sides { width, height } = self.sides;
         match &mut self.memory {
             Memory::Cells(cells) => {
@@ -263,7 +294,7 @@ fn through<S: Surface + Drop>(
     rt: &HostRuntime,
     page: S,
     window: Option<Part>,
-    act: Act,
+    act: Act<'_, '_>,
 ) -> Result<(), Stop> {
     match window {
         None => perform(rt, page, act),
@@ -271,7 +302,7 @@ fn through<S: Surface + Drop>(
     }
 }
 
-fn perform<S: Surface + Drop>(rt: &HostRuntime, mut page: S, act: Act) -> Result<(), Stop> {
+fn perform<S: Surface + Drop>(rt: &HostRuntime, mut page: S, act: Act<'_, '_>) -> Result<(), Stop> {
     match act {
         Act::Put(put) => {
             page.put(put.x, put.y, put.symbol.as_slice(), put.style)
@@ -284,6 +315,12 @@ fn perform<S: Surface + Drop>(rt: &HostRuntime, mut page: S, act: Act) -> Result
                 Some(cell) => print_cell(rt, "read ", x, y, cell)?,
                 None => println!(rt; "read {x} {y} none")?,
             }
+            Ok(())
+        }
+        Act::Paint(painting) => {
+            let Painting { sheet, rule, area } = painting;
+            sheet.render(&rule, area, &mut page)?;
+            println!(rt; "paint ok")?;
             Ok(())
         }
         Act::Cells => print_cells(rt, &page),

@@ -1,5 +1,5 @@
 // Why a command was not carried out: its line cannot be read, what it asks for is refused, or the output failed.
-use markdown::TableRefusal;
+use markdown::{RenderRefusal, TableRefusal};
 use std::alloc::{AllocError, AllocFailed};
 use std::{fmt, io};
 use words::Fault;
@@ -13,6 +13,8 @@ pub enum Stop {
     NotLoaded(events::refusal::Refusal),
     // a question for a table, and why it is refused
     NoTable(TableRefusal),
+    // a paint, and why it is refused
+    NotPainted(RenderRefusal),
     // a command on pages, before there is one
     NoPage(&'static str),
     Output(io::Error),
@@ -27,6 +29,12 @@ impl From<events::refusal::Refusal> for Stop {
 impl From<TableRefusal> for Stop {
     fn from(refusal: TableRefusal) -> Stop {
         Stop::NoTable(refusal)
+    }
+}
+
+impl From<RenderRefusal> for Stop {
+    fn from(refusal: RenderRefusal) -> Stop {
+        Stop::NotPainted(refusal)
     }
 }
 
