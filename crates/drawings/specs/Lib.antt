@@ -1,0 +1,4 @@
+pub mod Strokes
+pub mod Tables
+pub mod Drawings
+pub mod Pages
