@@ -2,3 +2,4 @@ pub mod Strokes
 pub mod Tables
 pub mod Drawings
 pub mod Pages
+pub mod Frames
