@@ -1,5 +1,5 @@
 -- How strokes through a frame add up, and which of them change nothing.
-use Rattle.std.proofs.Common.{◌≡◌, ℕ, ◌+◌, ◌<◌, ◌≤◌, Bool, true, false, cond, ◌&&◌, eqb, ltb, leb, List, [], ◌∷◌, ◌++◌, length, fold, min, max, is_ok, Result, refl, sym, ap, ◌∙◌, ⊎_elim, arith}
+use Rattle.std.proofs.Common.{◌≡◌, ℕ, ◌+◌, ◌<◌, ◌≤◌, Bool, true, false, cond, ◌&&◌, eqb, ltb, leb, List, [], ◌∷◌, ◌++◌, length, fold, min, max, is_ok, Result, Some, None, Option, refl, sym, ap, ◌∙◌, ⊎_elim, arith}
 use Rattle.std.specs.List.{AllByRecursion}
 use Rattle.std.proofs.lemmas.Bool.{cases_Bool, cond-true, cond-false, true≢false}
 use Rattle.std.proofs.lemmas.Bool.Decides.{nat_tests}
@@ -13,7 +13,7 @@ use Rattle.page.specs.Refusals.{put_answer}
 use Rattle.page.specs.Surfaces.{Page, Put, inside, patch}
 use Rattle.drawings.specs.Strokes.{Stroke, stroke}
 use Rattle.drawings.specs.Pages.{stroked, taken}
-use Rattle.drawings.specs.Frames.{Frame, Drawn, bounded, lands, trail}
+use Rattle.drawings.specs.Frames.{Frame, Drawn, bounded, placed, lands, trail}
 
 -- A stroke lies in the columns from x up to v and in the rows from y up to z.
 pub record Lies (x v y z : ℕ) (p : Stroke) : Type 0 where
@@ -76,6 +76,24 @@ put_lands f w h x y a b i j bs t c ok wide high on e g k =
       ∙ sym (cond-false (lands f w h i j p) (stroked p (c i j)) (c i j) no))
     (cases_Bool (lands f w h i j p))
 
+column_of : Option (ℕ × ℕ) → ℕ
+column_of None = 0
+column_of (Some p) = p.0
+
+row_of : Option (ℕ × ℕ) → ℕ
+row_of None = 0
+row_of (Some p) = p.1
+
+place_on : (f : Frame) (x y a b : ℕ) → placed f x y ≡ Some (a, b) → (bounded f x y ≡ true) × (a ≡ min 65535 (f.x + x)) × (b ≡ min 65535 (f.y + y))
+unfolding column_of row_of
+place_on f x y a b e =
+    ⊎_elim
+    (λ yes.
+      let q = sym (cond-true (bounded f x y) (Some (min 65535 (f.x + x), min 65535 (f.y + y))) None yes) ∙ e in
+      (yes, sym (ap column_of q), sym (ap row_of q)))
+    (λ no. let q = sym (cond-false (bounded f x y) (Some (min 65535 (f.x + x), min 65535 (f.y + y))) None no) ∙ e in absurd (cc))
+    (cases_Bool (bounded f x y))
+
 module _ {A : Type 0} (shows : A → Page) (held : A → List ℕ) (rest : A → List ℕ → ℕ → ℕ → Cell) (lawful : A → Type 0) where
 
   -- Nothing is drawn.
@@ -124,12 +142,13 @@ module _ {A : Type 0} (shows : A → Page) (held : A → List ℕ) (rest : A →
       }
 
   -- A put within the bounds draws its stroke.
-  pub drawn-put : (f : Frame) (x y a b : ℕ) (bs : List ℕ) (t : Style) (s u : A) (r : Result (Unit {0}) Refusal) → bounded f x y ≡ true → a ≡ min 65535 (f.x + x) → b ≡ min 65535 (f.y + y) → Put shows held rest lawful a b bs t s u r → Drawn shows held rest lawful f (stroke x y bs t ∷ []) s u
-  drawn-put f x y a b bs t s u r on e g p =
+  pub drawn-put : (f : Frame) (x y a b : ℕ) (bs : List ℕ) (t : Style) (s u : A) (r : Result (Unit {0}) Refusal) → placed f x y ≡ Some (a, b) → Put shows held rest lawful a b bs t s u r → Drawn shows held rest lawful f (stroke x y bs t ∷ []) s u
+  drawn-put f x y a b bs t s u r e p =
+      let o = place_on f x y a b e in
       record {
         cells = λ i j.
           p.cells i j
-          ∙ put_lands f (shows s).wide (shows s).high x y a b i j bs t (shows s).cell (is_ok r) (shows s).narrow (shows s).short on e g
+          ∙ put_lands f (shows s).wide (shows s).high x y a b i j bs t (shows s).cell (is_ok r) (shows s).narrow (shows s).short o.0 o.1 o.2
               (put_ok (inside (shows s).wide (shows s).high a b) (length bs) t (stroke x y bs t) r refl refl p.value);
         as_wide = p.as_wide;
         as_high = p.as_high;

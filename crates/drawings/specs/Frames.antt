@@ -1,5 +1,5 @@
 -- What strokes make of a page through a frame: those within the frame's bounds are drawn, one after another.
-use Rattle.std.specs.Prelude.{◌≡◌, ℕ, ◌+◌, Bool, cond, ◌&&◌, List, fold, ◌==◌, nat_le, nat_lt}
+use Rattle.std.specs.Prelude.{◌≡◌, ℕ, ◌+◌, min, Bool, cond, ◌&&◌, List, fold, Option, Some, None, ◌==◌, nat_le, nat_lt}
 use Rattle.page.specs.declared.cells.Cell.{Cell}
 use Rattle.page.specs.Surfaces.{Page, inside}
 use Rattle.drawings.specs.Strokes.{Stroke}
@@ -17,6 +17,10 @@ pub record Frame : Type 0 where
 -- Whether a place lies within the bounds.
 abbrev pub bounded : Frame → ℕ → ℕ → Bool
 bounded f x y = (nat_le f.left x && nat_lt x f.right) && (nat_le f.top y && nat_lt y f.bottom)
+
+-- Where on the page a place lies, if it lies within the bounds; no page has a place past 65,534.
+abbrev pub placed : Frame → ℕ → ℕ → Option (ℕ × ℕ)
+placed f x y = cond (bounded f x y) (Some (min 65535 (f.x + x), min 65535 (f.y + y))) None
 
 -- Whether a stroke is drawn at a place of a page of w by h.
 abbrev pub lands : Frame → ℕ → ℕ → ℕ → ℕ → Stroke → Bool

@@ -1,0 +1,5 @@
+//! Painting a sheet on a page.
+
+#![tactic(auto)]
+
+pub mod pen;
