@@ -1,1 +1,3 @@
 pub mod Trails
+pub mod Lists
+pub mod RowPlaces

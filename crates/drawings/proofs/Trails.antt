@@ -1,7 +1,7 @@
 -- How strokes through a frame add up, and which of them change nothing.
-use Rattle.std.proofs.Common.{◌≡◌, ℕ, ◌+◌, ◌<◌, ◌≤◌, Bool, true, false, cond, ◌&&◌, eqb, ltb, leb, List, [], ◌∷◌, ◌++◌, length, fold, min, max, is_ok, Result, Some, None, Option, refl, sym, ap, ◌∙◌, ⊎_elim, arith}
+use Rattle.std.proofs.Common.{◌≡◌, ℕ, ◌+◌, ◌<◌, ◌≤◌, Bool, true, false, cond, ◌&&◌, eqb, ltb, leb, List, [], ◌∷◌, ◌++◌, length, fold, min, max, is_ok, Result, Some, None, Option, refl, sym, ap, subst, ◌∙◌, ⊎_elim, arith}
 use Rattle.std.specs.List.{AllByRecursion}
-use Rattle.std.proofs.lemmas.Bool.{cases_Bool, cond-true, cond-false, true≢false}
+use Rattle.std.proofs.lemmas.Bool.{cases_Bool, cond-true, cond-false, cond_both, true≢false}
 use Rattle.std.proofs.lemmas.Bool.Decides.{nat_tests}
 use Rattle.std.proofs.lemmas.List.Sums.{fold-append}
 use Rattle.style.specs.declared.Style.{Style}
@@ -13,18 +13,8 @@ use Rattle.page.specs.Refusals.{put_answer}
 use Rattle.page.specs.Surfaces.{Page, Put, inside, patch}
 use Rattle.drawings.specs.Strokes.{Stroke, stroke}
 use Rattle.drawings.specs.Pages.{stroked, taken}
+use Rattle.drawings.proofs.Lists.{Lies, Unseen}
 use Rattle.drawings.specs.Frames.{Frame, Drawn, bounded, placed, lands, trail}
-
--- A stroke lies in the columns from x up to v and in the rows from y up to z.
-pub record Lies (x v y z : ℕ) (p : Stroke) : Type 0 where
-  pub from_x : x ≤ p.x
-  pub to_x : p.x < v
-  pub from_y : y ≤ p.y
-  pub to_y : p.y < z
-
--- No stroke of a list lies within the bounds.
-abbrev pub Unseen : Frame → List Stroke → Type 0
-Unseen f ps = AllByRecursion (λ p. bounded f p.x p.y ≡ false) ps
 
 -- A frame with the bounds cut to the columns from x up to v and the rows from y up to z.
 abbrev pub cut_to : ℕ → ℕ → ℕ → ℕ → Frame → Frame
@@ -112,6 +102,21 @@ module _ {A : Type 0} (shows : A → Page) (held : A → List ℕ) (rest : A →
         still = λ l. l;
       }
 
+  -- A stroke that no page takes is drawn by doing nothing.
+  pub drawn-untaken : (f : Frame) (p : Stroke) (s : A) → taken p ≡ false → Drawn shows held rest lawful f (p ∷ []) s s
+  drawn-untaken f p s e =
+      record {
+        cells = λ i j.
+          let c = (shows s).cell i j in
+          let b = lands f (shows s).wide (shows s).high i j p in
+          sym (ap (λ v. cond b (cond v (inked (symbol_of p.symbol) p.style c) c) c) e ∙ cond_both b c c (λ v. v ≡ c) (λ _. refl) (λ _. refl));
+        as_wide = refl;
+        as_high = refl;
+        kept = refl;
+        hidden = λ p i j. refl;
+        still = λ l. l;
+      }
+
   -- Some strokes and then others.
   pub drawn-append : (f : Frame) (ps qs : List Stroke) (s t u : A) → Drawn shows held rest lawful f ps s t → Drawn shows held rest lawful f qs t u → Drawn shows held rest lawful f (ps ++ qs) s u
   drawn-append f ps qs s t u d e =
@@ -156,3 +161,25 @@ module _ {A : Type 0} (shows : A → Page) (held : A → List ℕ) (rest : A →
         hidden = p.hidden;
         still = p.still;
       }
+
+  -- Whatever draws some strokes from s on will have drawn those of the whole from the start on.
+  abbrev pub Onward : Frame → List Stroke → A → List Stroke → A → Type 0
+  Onward f whole start ps s = (u : A) → Drawn shows held rest lawful f ps s u → Drawn shows held rest lawful f whole start u
+
+  pub onward-start : (f : Frame) (ps : List Stroke) (s : A) → Onward f ps s ps s
+  onward-start f ps s u d = d
+
+  -- After some of the strokes the others are left.
+  pub onward-more : (f : Frame) (whole rest_of ps qs : List Stroke) (start s t : A) → rest_of ≡ ps ++ qs → Onward f whole start rest_of s → Drawn shows held rest lawful f ps s t → Onward f whole start qs t
+  onward-more f whole rest_of ps qs start s t e o d u k =
+      let P : List Stroke → Type 0 = λ q. Drawn shows held rest lawful f q s u in
+      o u (subst P (sym e) (drawn-append f ps qs s t u d k))
+
+  -- Where no stroke is left, or none that is seen, all are drawn.
+  pub onward-end : (f : Frame) (whole ps : List Stroke) (start s : A) → Onward f whole start ps s → ps ≡ [] → Drawn shows held rest lawful f whole start s
+  onward-end f whole ps start s o e =
+      let P : List Stroke → Type 0 = λ q. Drawn shows held rest lawful f q s s in
+      o s (subst P (sym e) (drawn-none f s))
+
+  pub onward-unseen : (f : Frame) (whole ps : List Stroke) (start s : A) → Onward f whole start ps s → Unseen f ps → Drawn shows held rest lawful f whole start s
+  onward-unseen f whole ps start s o u = o s (drawn-unseen f ps s u)

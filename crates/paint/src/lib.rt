@@ -3,3 +3,4 @@
 #![tactic(auto)]
 
 pub mod pen;
+pub mod rows;
