@@ -183,3 +183,8 @@ module _ {A : Type 0} (shows : A → Page) (held : A → List ℕ) (rest : A →
 
   pub onward-unseen : (f : Frame) (whole ps : List Stroke) (start s : A) → Onward f whole start ps s → Unseen f ps → Drawn shows held rest lawful f whole start s
   onward-unseen f whole ps start s o u = o s (drawn-unseen f ps s u)
+
+  pub onward-same : (f : Frame) (whole ps qs : List Stroke) (start s : A) → Onward f whole start ps s → ps ≡ qs → Onward f whole start qs s
+  onward-same f whole ps qs start s o e =
+      let P : List Stroke → Type 0 = λ q. Onward f whole start q s in
+      subst P e o

@@ -2,5 +2,7 @@
 
 #![tactic(auto)]
 
+pub mod lines;
 pub mod pen;
 pub mod rows;
+pub mod texts;

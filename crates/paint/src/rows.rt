@@ -19,7 +19,7 @@ const STAND_IN: Symbol = Symbol {
 };
 
 // What a glyph counts in a row of `width` cells.
-fn cells_of(glyph: &Glyph, width: u16) -> u16
+pub fn cells_of(glyph: &Glyph, width: u16) -> u16
     ensures value { result ≡ counted width glyph.now }
 {
     u16::from(glyph.width).min(width)
