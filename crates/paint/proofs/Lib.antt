@@ -1,1 +1,2 @@
 pub mod RowSteps
+pub mod TextSteps
