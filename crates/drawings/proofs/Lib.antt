@@ -1,3 +1,4 @@
 pub mod Trails
 pub mod Lists
 pub mod RowPlaces
+pub mod RulePlaces

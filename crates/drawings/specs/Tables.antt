@@ -6,13 +6,8 @@ use Rattle.blocks.specs.Pieces.{Line}
 use Rattle.layouts.specs.Layouts.{row_height}
 use Rattle.drawings.specs.declared.Alignment.{Alignment}
 use Rattle.drawings.specs.declared.Alignment.TheVariants.{Left, Centre, Right}
+use Rattle.drawings.specs.declared.Corners.{Corners}
 use Rattle.drawings.specs.Strokes.{Stroke, stroke, line_strokes}
-
--- What a rule shows at the left border, at those between columns, and at the right one.
-pub record Corners : Type 0 where
-  pub left : List ℕ
-  pub middle : List ℕ
-  pub right : List ℕ
 
 -- ┌ ┬ ┐
 abbrev pub upper : Corners

@@ -31,3 +31,12 @@ pub struct Area {
     pub width: u16,
     pub height: u16,
 }
+
+// What a rule of a table shows at the left border, at those between columns, and at the right one: one
+// symbol of three bytes each.
+#[derive(Clone, Copy, PartialEq, Eq, Debug)]
+pub struct Corners {
+    pub left: [u8; 3],
+    pub middle: [u8; 3],
+    pub right: [u8; 3],
+}

@@ -1,2 +1,3 @@
 pub mod RowSteps
 pub mod TextSteps
+pub mod RuleSteps

@@ -5,4 +5,5 @@
 pub mod lines;
 pub mod pen;
 pub mod rows;
+pub mod rules;
 pub mod texts;
