@@ -1,6 +1,6 @@
 -- How the blocks of a sheet are laid out on a page: the widths of a table's columns, and how many rows everything takes.
 -- A table is its rows, the header first; each row is a list of entries, the leftmost first.
-use Rattle.std.specs.Prelude.{ℕ, ◌+◌, ◌-◌, max, Bool, cond, ◌&&◌, List, [], ◌∷◌, ◌++◌, map, length, sum_by, nat_eq, Option, slice_get}
+use Rattle.std.specs.Prelude.{ℕ, ◌+◌, ◌-◌, ◌≤◌, max, Bool, cond, ◌&&◌, List, [], ◌∷◌, ◌++◌, map, length, sum_by, nat_eq, nat_lt, Option, slice_get}
 use Rattle.shares.specs.Shares.{naturals, widths, taken}
 use Rattle.wrap_laws.specs.Breaks.{Breaking, rows}
 use Rattle.records.specs.declared.kinds.Info.{Info}
@@ -39,15 +39,13 @@ row_height b [] es = 1
 row_height b (w ∷ ws) [] = 1
 row_height b (w ∷ ws) (e ∷ es) = max (rows b e w) (row_height b ws es)
 
--- The rules of a table: one above, one below, and one under the header where body rows follow.
-abbrev pub rule_count : List (List Line) → ℕ
-rule_count [] = 2
-rule_count (head ∷ []) = 2
-rule_count (head ∷ r ∷ rs) = 3
+-- The rules of a table of n rows: one above, one below, and one under the header where body rows follow.
+abbrev pub rule_count : ℕ → ℕ
+rule_count n = cond (nat_lt 1 n) 3 2
 
 -- The rows of a table, its rules counted, where its columns have these widths.
 abbrev pub rows_at : Breaking → List ℕ → List (List Line) → ℕ
-rows_at b ws rs = rule_count rs + sum_by (row_height b ws) rs
+rows_at b ws rs = rule_count (length rs) + sum_by (row_height b ws) rs
 
 -- The rows of a table on a page of width w.
 abbrev pub table_rows : Breaking → ℕ → Bool → List (List Line) → ℕ
@@ -88,3 +86,7 @@ tables_of (p ∷ ps) = table_in p ++ tables_of ps
 -- The table of this number, counted from 0 among the tables alone.
 abbrev pub table_at : List Piece → ℕ → Option Table
 table_at ps n = slice_get (tables_of ps) n
+
+-- Whatever the rule and the page, these blocks take at most 59,211 rows.
+abbrev pub Low : List Piece → Type 0
+Low ps = (b : Breaking) (w : ℕ) (streaming : Bool) → total_rows b w streaming ps ≤ 59211
