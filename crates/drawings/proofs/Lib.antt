@@ -2,3 +2,4 @@ pub mod Trails
 pub mod Lists
 pub mod RowPlaces
 pub mod RulePlaces
+pub mod TablePlaces

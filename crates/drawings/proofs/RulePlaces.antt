@@ -11,6 +11,10 @@ abbrev pub span_of : List ℕ → ℕ
 span_of [] = 1
 span_of (w ∷ ws) = w + 3 + span_of ws
 
+pub span_some : (ws : List ℕ) → 1 ≤ span_of ws
+span_some [] = omega arith
+span_some (w ∷ ws) = omega (arith, span_some ws)
+
 -- Dashes stand side by side.
 pub dashes_lie : (t : Style) (x y n : ℕ) → AllLie x (x + n) y (y + 1) (dashes t x y n)
 dashes_lie t x y zero = tt

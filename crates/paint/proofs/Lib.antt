@@ -1,3 +1,4 @@
 pub mod RowSteps
 pub mod TextSteps
 pub mod RuleSteps
+pub mod EntrySteps

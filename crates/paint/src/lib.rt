@@ -6,4 +6,5 @@ pub mod lines;
 pub mod pen;
 pub mod rows;
 pub mod rules;
+pub mod tables;
 pub mod texts;
