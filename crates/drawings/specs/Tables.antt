@@ -85,3 +85,18 @@ below_rule b t bits ws y (head ∷ rs) = table_row b t bits ws y head ++ below_h
 -- The strokes of a table whose columns have these widths.
 abbrev pub table_strokes : Breaking → Style → ℕ → List ℕ → ℕ → List (List Line) → List Stroke
 table_strokes b t bits ws y rs = rule_strokes t upper y ws ++ below_rule b t bits ws (y + 1) rs
+
+-- How many rows body rows take with the rule below them.
+abbrev pub body_rows : Breaking → List ℕ → List (List Line) → ℕ
+body_rows b ws [] = 1
+body_rows b ws (r ∷ rs) = row_height b ws r + body_rows b ws rs
+
+-- How many rows stand below the header.
+abbrev pub below_head_rows : Breaking → List ℕ → List (List Line) → ℕ
+below_head_rows b ws [] = 1
+below_head_rows b ws (r ∷ rs) = 1 + body_rows b ws (r ∷ rs)
+
+-- How many rows stand below the upper rule.
+abbrev pub below_rule_rows : Breaking → List ℕ → List (List Line) → ℕ
+below_rule_rows b ws [] = 1
+below_rule_rows b ws (head ∷ rs) = row_height b ws head + below_head_rows b ws rs

@@ -2,3 +2,4 @@ pub mod RowSteps
 pub mod TextSteps
 pub mod RuleSteps
 pub mod EntrySteps
+pub mod TableSteps

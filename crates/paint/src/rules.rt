@@ -1,6 +1,6 @@
 // Rules and borders of tables.
 
-ghost use Rattle.std.specs.Prelude.{◌≡◌, ◌<◌};
+ghost use Rattle.std.specs.Prelude.{◌≡◌, ◌+◌, ◌<◌, ◌≤◌, MatchOption};
 ghost use Rattle.drawings.specs.Tables.{dashes, rule_from, rule_strokes, borders_from, borders};
 ghost use Rattle.drawings.specs.Frames.{Drawn};
 ghost use Rattle.paint.specs.Pens.{frame_of};
@@ -31,8 +31,8 @@ impl Pen {
         }
     }
 
-    // Draws a rule over columns of these widths.
-    pub fn draw_rule<S: Surface>(&self, page: &mut S, widths: &[u16], y: u32, corners: Corners, style: Style)
+    // Draws a rule in its row.
+    fn draw_rule_at<S: Surface>(&self, page: &mut S, widths: &[u16], y: u32, corners: Corners, style: Style)
         ensures after { Drawn S.Surface.shows S.Surface.held S.Surface.rest S.Surface.lawful (frame_of self.now) (rule_strokes style corners y widths.now) page.old page.new }
     {
         let mut x = 0;
@@ -48,6 +48,19 @@ impl Pen {
             corner = corners.middle;
         }
         self.put(page, x, y, &corners.right, style);
+    }
+
+    // Draws a rule over columns of these widths, and tells the row below it; none where drawing stopped at
+    // the lower bound.
+    pub fn draw_rule<S: Surface>(&self, page: &mut S, widths: &[u16], y: u32, corners: Corners, style: Style) -> Option<u32>
+        ensures after { Drawn S.Surface.shows S.Surface.held S.Surface.rest S.Surface.lawful (frame_of self.now) (rule_strokes style corners y widths.now) page.old page.new }
+        ensures below { MatchOption result (self.now.bounds.bottom ≤ y) (λ n. n ≡ y + 1) }
+    {
+        if y >= u32::from(self.bounds.bottom) {
+            return None;
+        }
+        self.draw_rule_at(page, widths, y, corners, style);
+        Some(y + 1)
     }
 
     // Draws the borders of columns in one row.

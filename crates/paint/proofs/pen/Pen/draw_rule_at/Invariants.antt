@@ -2,7 +2,7 @@ use Rattle.std.proofs.Common.{drop}
 use Rattle.drawings.specs.Tables.{rule_from, rule_strokes}
 use Rattle.drawings.proofs.Trails.{Onward}
 use Rattle.paint.specs.Pens.{frame_of}
-use Rattle.paint.proofs.pen.Pen.draw_rule.Given as goal
+use Rattle.paint.proofs.pen.Pen.draw_rule_at.Given as goal
 
 abbrev pub invariant-loop-width : goal.invariant-loop-width
 invariant-loop-width g l =
