@@ -17,4 +17,4 @@ mod tables;
 
 pub use rows::{entries_of, row_height};
 pub use sheets::{table_at, total_rows};
-pub use tables::{layout_columns, layout_table, widths_of};
+pub use tables::{is_growing, layout_columns, layout_table, widths_of};

@@ -2,17 +2,19 @@
 
 ghost use Rattle.std.specs.Prelude.{◌≡◌, ◌+◌, ◌≤◌, map, MatchOption};
 ghost use Rattle.records.specs.Memory.{spanned};
+ghost use Rattle.blocks.specs.Pieces.{table};
 ghost use Rattle.blocks.specs.Reads.{entries_of};
-ghost use Rattle.layouts.specs.Layouts.{row_height};
-ghost use Rattle.drawings.specs.Tables.{alignment, entries_from, table_row, body, body_rows};
+ghost use Rattle.layouts.specs.Layouts.{row_height, block_rows};
+ghost use Rattle.drawings.specs.Tables.{alignment, entries_from, table_row, body, body_rows, below_head, below_head_rows, below_rule, below_rule_rows};
+ghost use Rattle.drawings.specs.Drawings.{block_strokes};
 ghost use Rattle.drawings.specs.Frames.{Drawn};
 ghost use Rattle.paint.specs.Pens.{frame_of};
 
 use super::pen::Pen;
 use drawings::{Alignment, Corners};
-use layout::{entries_of, row_height};
+use layout::{entries_of, is_growing, layout_columns, row_height, widths_of};
 use page::Surface;
-use records::kinds::{Records, Row, Span};
+use records::kinds::{Info, Records, Row, Span};
 use style::Style;
 use wrap::BreakingRule;
 
@@ -107,5 +109,51 @@ impl Pen {
             y = self.draw_cells(page, rule, sheet, entries, columns, y)?;
         }
         self.draw_rule(page, columns.widths, y, LOWER, columns.border)
+    }
+
+    // Draws what stands below the header of a table: the rule below the table, or, where there are body
+    // rows, a rule and then these.
+    fn draw_below_head<S: Surface, R: BreakingRule>(&mut self, page: &mut S, rule: &R, sheet: &Records, rows: &[Row], count: u8, columns: Columns, top: u32) -> Option<u32>
+        ensures after { Drawn S.Surface.shows S.Surface.held S.Surface.rest S.Surface.lawful (frame_of self.old) (below_head (R.BreakingRule.meaning rule.now) columns.entry.border columns.entry.alignments columns.entry.widths.now top (map (entries_of sheet.now.glyphs count) rows.now)) page.old page.new }
+        ensures bounds { self.new ≡ self.old }
+        ensures below { MatchOption result (self.old.bounds.bottom ≤ top + below_head_rows (R.BreakingRule.meaning rule.now) columns.entry.widths.now (map (entries_of sheet.now.glyphs count) rows.now)) (λ n. n ≡ top + below_head_rows (R.BreakingRule.meaning rule.now) columns.entry.widths.now (map (entries_of sheet.now.glyphs count) rows.now)) }
+    {
+        if rows.is_empty() {
+            return self.draw_rule(page, columns.widths, top, LOWER, columns.border);
+        }
+        let y = self.draw_rule(page, columns.widths, top, INNER, columns.border)?;
+        self.draw_body(page, rule, sheet, rows, count, columns, y)
+    }
+
+    // Draws what stands below the upper rule of a table: the header first.
+    fn draw_below_rule<S: Surface, R: BreakingRule>(&mut self, page: &mut S, rule: &R, sheet: &Records, rows: &[Row], count: u8, columns: Columns, top: u32) -> Option<u32>
+        ensures after { Drawn S.Surface.shows S.Surface.held S.Surface.rest S.Surface.lawful (frame_of self.old) (below_rule (R.BreakingRule.meaning rule.now) columns.entry.border columns.entry.alignments columns.entry.widths.now top (map (entries_of sheet.now.glyphs count) rows.now)) page.old page.new }
+        ensures bounds { self.new ≡ self.old }
+        ensures below { MatchOption result (self.old.bounds.bottom ≤ top + below_rule_rows (R.BreakingRule.meaning rule.now) columns.entry.widths.now (map (entries_of sheet.now.glyphs count) rows.now)) (λ n. n ≡ top + below_rule_rows (R.BreakingRule.meaning rule.now) columns.entry.widths.now (map (entries_of sheet.now.glyphs count) rows.now)) }
+    {
+        let Some((head, rows)) = rows.split_first() else {
+            return self.draw_rule(page, columns.widths, top, LOWER, columns.border);
+        };
+        let entries = entries_of(head, count);
+        let y = self.draw_cells(page, rule, sheet, entries, columns, top)?;
+        self.draw_below_head(page, rule, sheet, rows, count, columns, y)
+    }
+
+    // Draws a table on a page of this width, lined in a style, and tells the row below it; none where
+    // drawing stopped at the lower bound.
+    pub fn render_table<S: Surface, R: BreakingRule>(&mut self, page: &mut S, rule: &R, sheet: &Records, info: Info, rows: &[Row], width: u16, streaming: bool, border: Style, top: u32) -> Option<u32>
+        ensures after { Drawn S.Surface.shows S.Surface.held S.Surface.rest S.Surface.lawful (frame_of self.old) (block_strokes (R.BreakingRule.meaning rule.now) width streaming border top (table info (map (entries_of sheet.now.glyphs info.columns) rows.now))) page.old page.new }
+        ensures bounds { self.new ≡ self.old }
+        ensures below { MatchOption result (self.old.bounds.bottom ≤ top + block_rows (R.BreakingRule.meaning rule.now) width streaming (table info (map (entries_of sheet.now.glyphs info.columns) rows.now))) (λ n. n ≡ top + block_rows (R.BreakingRule.meaning rule.now) width streaming (table info (map (entries_of sheet.now.glyphs info.columns) rows.now))) }
+    {
+        let growing = is_growing(info, streaming);
+        let layout = layout_columns(sheet, rows, info.columns, width, growing);
+        let columns = Columns {
+            widths: widths_of(&layout),
+            alignments: info.alignments,
+            border,
+        };
+        let y = self.draw_rule(page, columns.widths, top, UPPER, border)?;
+        self.draw_below_rule(page, rule, sheet, rows, info.columns, columns, y)
     }
 }
