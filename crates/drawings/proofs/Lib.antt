@@ -3,3 +3,4 @@ pub mod Lists
 pub mod RowPlaces
 pub mod RulePlaces
 pub mod TablePlaces
+pub mod SheetPlaces

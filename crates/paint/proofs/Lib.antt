@@ -3,3 +3,4 @@ pub mod TextSteps
 pub mod RuleSteps
 pub mod EntrySteps
 pub mod TableSteps
+pub mod SheetSteps
