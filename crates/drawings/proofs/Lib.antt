@@ -4,3 +4,4 @@ pub mod RowPlaces
 pub mod RulePlaces
 pub mod TablePlaces
 pub mod SheetPlaces
+pub mod Apart

@@ -1,6 +1,6 @@
 -- The page after a paint.
-use Rattle.std.specs.Prelude.{◌≡◌, ℕ, ◌+◌, ◌-◌, Bool, cond, ◌&&◌, List, length, Option, Some, None, ◌==◌, nat_le, nat_lt}
-use Rattle.std.specs.List.{find}
+use Rattle.std.specs.Prelude.{◌≡◌, ℕ, ◌+◌, ◌-◌, Bool, cond, ◌&&◌, List, [], ◌∷◌, length, Option, Some, None, ◌==◌, nat_le, nat_lt}
+use Rattle.std.specs.List.{find, AllByRecursion}
 use Rattle.style.specs.Styles.{known_colours}
 use Rattle.style.specs.Symbols.{symbol_of}
 use Rattle.page.specs.declared.cells.Cell.{Cell}
@@ -20,6 +20,15 @@ in_area a i j = (nat_le a.x i && nat_lt i (a.x + a.width)) && (nat_le a.y j && n
 -- The stroke that a drawing has at a place.
 abbrev pub stroke_at : List Stroke → ℕ → ℕ → Option Stroke
 stroke_at ps x y = find (λ p. p.x == x && p.y == y) ps
+
+-- Two strokes stand at different places.
+abbrev pub Elsewhere : Stroke → Stroke → Type 0
+Elsewhere p q = p.x ≡ q.x → p.y ≡ q.y → ⊥
+
+-- No two strokes of a list share a place, so that it does not matter in which order they are drawn.
+abbrev pub Apart : List Stroke → Type 0
+Apart [] = Unit {0}
+Apart (p ∷ ps) = AllByRecursion (Elsewhere p) ps × Apart ps
 
 -- Whether a page takes a stroke: a symbol of at most 8 bytes, in colours that exist.
 abbrev pub taken : Stroke → Bool
