@@ -5,3 +5,4 @@ pub mod RulePlaces
 pub mod TablePlaces
 pub mod SheetPlaces
 pub mod Apart
+pub mod Painted

@@ -2,6 +2,7 @@
 use Rattle.std.specs.Prelude.{◌≡◌, ℕ, ◌+◌, min, Bool, cond, ◌&&◌, List, fold, Option, Some, None, ◌==◌, nat_le, nat_lt}
 use Rattle.page.specs.declared.cells.Cell.{Cell}
 use Rattle.page.specs.Surfaces.{Page, inside}
+use Rattle.drawings.specs.declared.Area.{Area}
 use Rattle.drawings.specs.Strokes.{Stroke}
 use Rattle.drawings.specs.Pages.{stroked}
 
@@ -13,6 +14,10 @@ pub record Frame : Type 0 where
   pub top : ℕ
   pub right : ℕ
   pub bottom : ℕ
+
+-- The frame that an area is: the sheet's corner is the area's, and the bounds are its sides.
+abbrev pub frame_in : Area → Frame
+frame_in a = record { x = a.x; y = a.y; left = 0; top = 0; right = a.width; bottom = a.height }
 
 -- Whether a place lies within the bounds.
 abbrev pub bounded : Frame → ℕ → ℕ → Bool
