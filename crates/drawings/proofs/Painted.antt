@@ -1,5 +1,5 @@
 -- Strokes that stand apart, drawn one after another through the frame of an area, make the page that a paint makes.
-use Rattle.std.proofs.Common.{◌≡◌, ℕ, ◌+◌, ◌-◌, ◌<◌, ◌≤◌, Bool, true, false, cond, ◌&&◌, eqb, ltb, leb, List, [], ◌∷◌, Some, None, Option, refl, sym, ap, ◌∙◌, ⊎_elim, arith}
+use Rattle.std.proofs.Common.{◌≡◌, ℕ, ◌+◌, ◌-◌, ◌<◌, ◌≤◌, Bool, true, false, cond, ◌&&◌, eqb, ltb, leb, List, [], ◌∷◌, Some, None, Option, refl, sym, ap, ◌∙◌, ◌⊎◌, ⊎_elim, arith}
 use Rattle.std.specs.List.{AllByRecursion}
 use Rattle.std.proofs.lemmas.Bool.{cases_Bool, cond-true, cond-false, eqb-true, and_parts, false_from_ne_true}
 use Rattle.std.proofs.lemmas.Bool.Decides.{nat_tests}
@@ -7,7 +7,7 @@ use Rattle.page.specs.declared.cells.Cell.{Cell}
 use Rattle.page.specs.Surfaces.{Page}
 use Rattle.drawings.specs.declared.Area.{Area}
 use Rattle.drawings.specs.Strokes.{Stroke}
-use Rattle.drawings.specs.Pages.{Elsewhere, Apart, on_page, in_area, stroke_at, stroked, drawn_on, painted, Paint}
+use Rattle.drawings.specs.Pages.{Elsewhere, Apart, on_page, in_area, stroke_at, stroked, drawn_on, painted, Paint, TallerShowsTheSame}
 use Rattle.drawings.specs.Frames.{Frame, Drawn, frame_in, lands, trail}
 
 -- Whether a stroke stands at a place.
@@ -71,6 +71,9 @@ trail_painted a w h i j f ps on apart =
       ∙ sym (cond-false (in_area a i j) (drawn_on (stroke_at ps x y) (f i j)) (f i j) no))
     (cases_Bool (in_area a i j))
 
+no_cell : (a : Area) (i j : ℕ) → (a.width ≡ 0) ⊎ (a.height ≡ 0) → in_area a i j ≡ false
+no_cell a i j e = ⊎_elim (λ z. grind (arith, nat_tests)) (λ z. grind (arith, nat_tests)) e
+
 pub paint-drawn : {A : Type 0} (shows : A → Page) (held : A → List ℕ) (rest : A → List ℕ → ℕ → ℕ → Cell) (lawful : A → Type 0) (a : Area) (ps : List Stroke) (s t : A) → on_page a (shows s).wide (shows s).high ≡ true → Apart ps → Drawn shows held rest lawful (frame_in a) ps s t → Paint shows held rest lawful a ps s t
 paint-drawn shows held rest lawful a ps s t on apart d =
     record {
@@ -81,3 +84,26 @@ paint-drawn shows held rest lawful a ps s t on apart d =
       hidden = d.hidden;
       still = d.still;
     }
+
+-- An area without a cell shows nothing.
+pub paint-empty : {A : Type 0} (shows : A → Page) (held : A → List ℕ) (rest : A → List ℕ → ℕ → ℕ → Cell) (lawful : A → Type 0) (a : Area) (ps : List Stroke) (s : A) → (a.width ≡ 0) ⊎ (a.height ≡ 0) → Paint shows held rest lawful a ps s s
+paint-empty shows held rest lawful a ps s e =
+    record {
+      cells = λ i j.
+        let c = (shows s).cell i j in
+        let off : in_area a i j ≡ false = no_cell a i j e in
+        sym (cond-false (in_area a i j) (drawn_on (stroke_at ps (i - a.x) (j - a.y)) c) c off);
+      as_wide = refl;
+      as_high = refl;
+      kept = refl;
+      hidden = λ p i j. refl;
+      still = λ l. l;
+    }
+
+pub taller_shows_the_same : (ps : List Stroke) → TallerShowsTheSame ps
+taller_shows_the_same ps a c f i j ex ey ew eh here =
+    let there : in_area c i j ≡ true = grind (arith, nat_tests) in
+    cond-true (in_area c i j) (drawn_on (stroke_at ps (i - c.x) (j - c.y)) (f i j)) (f i j) there
+    ∙ ap (λ x. drawn_on (stroke_at ps (i - x) (j - c.y)) (f i j)) (sym ex)
+    ∙ ap (λ y. drawn_on (stroke_at ps (i - a.x) (j - y)) (f i j)) (sym ey)
+    ∙ sym (cond-true (in_area a i j) (drawn_on (stroke_at ps (i - a.x) (j - a.y)) (f i j)) (f i j) here)

@@ -1,5 +1,5 @@
 -- The page after a paint.
-use Rattle.std.specs.Prelude.{◌≡◌, ℕ, ◌+◌, ◌-◌, Bool, cond, ◌&&◌, List, [], ◌∷◌, length, Option, Some, None, ◌==◌, nat_le, nat_lt}
+use Rattle.std.specs.Prelude.{◌≡◌, ℕ, ◌+◌, ◌-◌, ◌≤◌, Bool, true, cond, ◌&&◌, List, [], ◌∷◌, length, Option, Some, None, ◌==◌, nat_le, nat_lt}
 use Rattle.std.specs.List.{find, AllByRecursion}
 use Rattle.style.specs.Styles.{known_colours}
 use Rattle.style.specs.Symbols.{symbol_of}
@@ -55,3 +55,7 @@ pub record Paint {A : Type 0} (shows : A → Page) (held : A → List ℕ) (rest
   pub kept : held t ≡ held s
   pub hidden : (p : List ℕ) (i j : ℕ) → rest t p i j ≡ rest s p i j
   pub still : lawful s → lawful t
+
+-- Of two areas that differ in height alone the taller one shows the same in the rows of the other.
+abbrev pub TallerShowsTheSame : List Stroke → Type 0
+TallerShowsTheSame ps = (a c : Area) (f : ℕ → ℕ → Cell) (i j : ℕ) → a.x ≡ c.x → a.y ≡ c.y → a.width ≡ c.width → a.height ≤ c.height → in_area a i j ≡ true → painted c ps f i j ≡ painted a ps f i j

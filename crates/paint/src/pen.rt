@@ -3,10 +3,10 @@
 ghost use Rattle.std.specs.Prelude.{◌≡◌, ◌≤◌, [], ◌∷◌};
 ghost use Rattle.wrap_laws.specs.Breaks.{rows};
 ghost use Rattle.drawings.specs.Strokes.{stroke, line_strokes};
-ghost use Rattle.drawings.specs.Frames.{Drawn, placed};
+ghost use Rattle.drawings.specs.Frames.{Drawn, placed, frame_in};
 ghost use Rattle.paint.specs.Pens.{frame_of, cut_bounds, with_bounds};
 
-use drawings::Alignment;
+use drawings::{Alignment, Area};
 use glyphs::Glyph;
 use page::Surface;
 use style::Style;
@@ -60,6 +60,22 @@ impl Drop for Narrowed<'_> {
 }
 
 impl Pen {
+    // A pen that draws a sheet in an area.
+    pub fn new(area: Area) -> Pen
+        ensures value { frame_of result ≡ frame_in area }
+    {
+        Pen {
+            x: area.x,
+            y: area.y,
+            bounds: Bounds {
+                left: 0,
+                top: 0,
+                right: area.width,
+                bottom: area.height,
+            },
+        }
+    }
+
     // Where on the page a place of the sheet lies, if it lies within the bounds.
     fn place(&self, x: u32, y: u32) -> Option<(u16, u16)>
         ensures value { result ≡ placed (frame_of self.now) x y }
