@@ -15,5 +15,6 @@ mod rows;
 mod sheets;
 mod tables;
 
+pub use rows::{entries_of, row_height};
 pub use sheets::{table_at, total_rows};
-pub use tables::layout_table;
+pub use tables::{is_growing, layout_columns, layout_table, widths_of};

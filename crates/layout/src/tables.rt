@@ -38,7 +38,7 @@ pub fn layout_columns(
 }
 
 // Whether a table is the open one of a streaming sheet.
-fn is_growing(info: Info, streaming: bool) -> bool
+pub fn is_growing(info: Info, streaming: bool) -> bool
     ensures value { result ≡ (streaming && info.open) }
 {
     streaming && info.open

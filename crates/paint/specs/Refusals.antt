@@ -1,0 +1,17 @@
+use Rattle.std.specs.Prelude.{ℕ, List, decimal, cond, Ok, Err, Result}
+use Rattle.drawings.specs.declared.Area.{Area}
+use Rattle.drawings.specs.Pages.{on_page}
+use Rattle.paint.specs.declared.refusals.Refusal.{Refusal}
+use Rattle.paint.specs.declared.refusals.Refusal.TheVariants.{PastEdge}
+
+-- The number that stands for a refusal.
+abbrev pub number : Refusal → ℕ
+number PastEdge = 5
+
+-- A refusal as it is printed: its number.
+abbrev pub refusal_text : Refusal → List ℕ
+refusal_text e = decimal (number e)
+
+-- The answer of a paint on a page of w by h.
+abbrev pub answered : Area → ℕ → ℕ → Result (Unit {0}) Refusal
+answered a w h = cond (on_page a w h) (Ok tt) (Err PastEdge)
