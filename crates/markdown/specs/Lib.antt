@@ -1,3 +1,4 @@
 pub mod Answers
 pub mod Sheets
 pub mod Tables
+pub mod Pictures

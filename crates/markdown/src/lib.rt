@@ -15,6 +15,7 @@ mod loading;
 mod tables;
 
 use blank::Source;
+pub use drawings::Area;
 use events::event::Event;
 use events::refusal::Refusal;
 use events::styles::MarkdownStyles;
@@ -23,6 +24,8 @@ use glyphs::{Glyph, Ruler};
 use layout::{layout_table, table_at, total_rows};
 use loading::refill;
 pub use loading::{MAX_GLYPHS, MAX_LINES, MAX_ROWS, MAX_TABLES};
+use page::Surface;
+pub use paint::Refusal as RenderRefusal;
 use records::kinds::{Records, Row, Span};
 use style::Style;
 pub use tables::{TableLayout, TableRefusal};
@@ -38,10 +41,13 @@ pub struct Markdown<'a> {
 }
 
 impl<'a> Markdown<'a> {
-    ghost use Rattle.std.specs.Prelude.{◌≡◌, false, length, is_ok};
+    ghost use Rattle.std.specs.Prelude.{◌≡◌, true, false, length, is_ok};
     ghost use Rattle.markdown.specs.Answers.{answered};
     ghost use Rattle.markdown.specs.Sheets.{on_ok, empty_sheet, sheet_of, room_of, count_of, in_use, loaded};
     ghost use Rattle.markdown.specs.Tables.{height_of, table_answered, table_placed};
+    ghost use Rattle.drawings.specs.Pages.{Paint};
+    ghost use Rattle.paint.specs.Refusals.{answered as render_answered};
+    ghost use Rattle.markdown.specs.Pictures.{picture};
 
     // A sheet without a block over the memory that it is lent, whose lengths are its limits.
     pub fn new(glyphs: &'a mut [Glyph], lines: &'a mut [Span], rows: &'a mut [Row]) -> Markdown<'a>
@@ -120,5 +126,20 @@ impl<'a> Markdown<'a> {
             rows: height as u16,
         };
         Ok(())
+    }
+
+    // Paints the sheet into an area of a page, from the area's upper left corner on and as far as the area
+    // goes. Refused where the area passes the edge of the page; nothing changes then.
+    pub fn render<S: Surface, R: BreakingRule>(
+        &self,
+        rule: &R,
+        area: Area,
+        page: &mut S,
+    ) -> Result<(), RenderRefusal>
+        ensures answer { result ≡ render_answered area (S.Surface.shows page.old).wide (S.Surface.shows page.old).high }
+        ensures after { is_ok result ≡ true → Paint S.Surface.shows S.Surface.held S.Surface.rest S.Surface.lawful area (picture (R.BreakingRule.meaning rule.now) area.width (sheet_of self.now)) page.old page.new }
+        ensures same { is_ok result ≡ false → page.new ≡ page.old }
+    {
+        paint::render(page, area, rule, &self.records, self.streaming, self.border)
     }
 }
