@@ -3,7 +3,7 @@ use Rattle.std.proofs.Common.{◌≡◌, ℕ, suc, ◌+◌, ◌<◌, List, [], �
 use Rattle.std.proofs.lemmas.List.{at_drop_more}
 use Rattle.style.specs.declared.Style.{Style}
 use Rattle.drawings.specs.declared.Corners.{Corners}
-use Rattle.drawings.specs.Strokes.{Stroke, stroke}
+use Rattle.drawings.specs.Strokes.{stroke}
 use Rattle.drawings.specs.Tables.{dash, bar, dashes, rule_from, borders_from, borders}
 
 -- After a dash the others are left.

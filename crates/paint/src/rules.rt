@@ -32,7 +32,14 @@ impl Pen {
     }
 
     // Draws a rule in its row.
-    fn draw_rule_at<S: Surface>(&self, page: &mut S, widths: &[u16], y: u32, corners: Corners, style: Style)
+    fn draw_rule_at<S: Surface>(
+        &self,
+        page: &mut S,
+        widths: &[u16],
+        y: u32,
+        corners: Corners,
+        style: Style,
+    )
         ensures after { Drawn S.Surface.shows S.Surface.held S.Surface.rest S.Surface.lawful (frame_of self.now) (rule_strokes style corners y widths.now) page.old page.new }
     {
         let mut x = 0;
@@ -52,7 +59,14 @@ impl Pen {
 
     // Draws a rule over columns of these widths, and tells the row below it; none where drawing stopped at
     // the lower bound.
-    pub fn draw_rule<S: Surface>(&self, page: &mut S, widths: &[u16], y: u32, corners: Corners, style: Style) -> Option<u32>
+    pub fn draw_rule<S: Surface>(
+        &self,
+        page: &mut S,
+        widths: &[u16],
+        y: u32,
+        corners: Corners,
+        style: Style,
+    ) -> Option<u32>
         ensures after { Drawn S.Surface.shows S.Surface.held S.Surface.rest S.Surface.lawful (frame_of self.now) (rule_strokes style corners y widths.now) page.old page.new }
         ensures below { MatchOption result (self.now.bounds.bottom ≤ y) (λ n. n ≡ y + 1) }
     {
@@ -80,7 +94,14 @@ impl Pen {
     }
 
     // Draws the borders of columns in so many rows.
-    pub fn draw_borders<S: Surface>(&self, page: &mut S, widths: &[u16], top: u32, height: u16, style: Style)
+    pub fn draw_borders<S: Surface>(
+        &self,
+        page: &mut S,
+        widths: &[u16],
+        top: u32,
+        height: u16,
+        style: Style,
+    )
         requires { top < 65536 }
         ensures after { Drawn S.Surface.shows S.Surface.held S.Surface.rest S.Surface.lawful (frame_of self.now) (borders style top widths.now height) page.old page.new }
     {

@@ -1,4 +1,4 @@
-use Rattle.std.proofs.Common.{◌≡◌, ℕ, ◌+◌, ◌/◌, ◌<◌, ◌≤◌, map, inl, inr, ap, sym, subst, ◌∙◌, ⊎_elim, arith}
+use Rattle.std.proofs.Common.{◌+◌, ◌/◌, map, inl, inr, subst, ◌∙◌, ⊎_elim, arith}
 use Rattle.records.specs.Memory.{spanned}
 use Rattle.layouts.specs.Layouts.{row_height}
 use Rattle.drawings.specs.Strokes.{line_strokes}
@@ -23,7 +23,7 @@ returns-then-x-right-clause-after g c =
     let ws = l.entry-iterator.b.rest.now in
     let es = map line l.entry-iterator.a.rest.now in
     onward-unseen s.shows s.held s.rest s.lawful (frame_of a.self.now) (entries_from b a.alignments 0 a.y a.widths.now (map line a.entries.now)) (entries_from b l.bits l.x a.y ws es) a.page.now l.page l.invariant.drawn
-      (unseen_right (frame_of a.self.now) (l.x + 2) (l.x + span_of ws) a.y (a.y + row_height b ws es) (entries_from b l.bits l.x a.y ws es) (omega arith) (entries_lie b l.bits l.x a.y ws es))
+    (unseen_right (frame_of a.self.now) (l.x + 2) (l.x + span_of ws) a.y (a.y + row_height b ws es) (entries_from b l.bits l.x a.y ws es) (omega arith) (entries_lie b l.bits l.x a.y ws es))
 
 pub loop-entry-preserved : goal.loop-entry-preserved
 loop-entry-preserved g c =
@@ -65,4 +65,4 @@ returns-clause-after g c =
     let ws = l.entry-iterator.b.rest.now in
     let ss = l.entry-iterator.a.rest.now in
     onward-end s.shows s.held s.rest s.lawful (frame_of a.self.now) (entries_from b a.alignments 0 a.y a.widths.now (map (spanned gs) a.entries.now)) (entries_from b l.bits l.x a.y ws (map (spanned gs) ss)) a.page.now l.page l.invariant.drawn
-      (entries_end b l.bits l.x a.y gs ws ss (⊎_elim (λ p. inl p.1.0) (λ p. inr p.1.0) c.in-None.ensures.steps))
+    (entries_end b l.bits l.x a.y gs ws ss (⊎_elim (λ p. inl p.1.0) (λ p. inr p.1.0) c.in-None.ensures.steps))
