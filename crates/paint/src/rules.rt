@@ -16,6 +16,16 @@ const DASH: [u8; 3] = [0xE2, 0x94, 0x80];
 // │
 const BAR: [u8; 3] = [0xE2, 0x94, 0x82];
 
+// The cells beside an entry that stay as they are.
+const PADDING: u32 = 2;
+
+// How many cells a column takes with the border at its left and the cells beside its entry.
+pub fn stride(width: u16) -> u32
+    ensures value { result ≡ width + 3 }
+{
+    u32::from(width) + PADDING + 1
+}
+
 impl Pen {
     // Draws so many dashes from a column on.
     fn draw_dashes<S: Surface>(&self, page: &mut S, x: u32, y: u32, count: u32, style: Style)
@@ -50,8 +60,8 @@ impl Pen {
             }
             let cells = u32::from(*width);
             self.put(page, x, y, &corner, style);
-            self.draw_dashes(page, x + 1, y, cells + 2, style);
-            x += cells + 3;
+            self.draw_dashes(page, x + 1, y, cells + PADDING, style);
+            x += stride(*width);
             corner = corners.middle;
         }
         self.put(page, x, y, &corners.right, style);
@@ -86,9 +96,8 @@ impl Pen {
             if x >= u32::from(self.bounds.right) {
                 return;
             }
-            let cells = u32::from(*width);
             self.put(page, x, y, &BAR, style);
-            x += cells + 3;
+            x += stride(*width);
         }
         self.put(page, x, y, &BAR, style);
     }

@@ -53,6 +53,14 @@ impl Pen {
         }
     }
 
+    // Where the block behind one that ends above this row begins: one row stands between them. None where
+    // that is past the lower bound.
+    fn next_block(&self, below: u32) -> Option<u32>
+        ensures cases { MatchOption result (self.now.bounds.bottom ≤ below) (λ n. n ≡ below + 1) }
+    {
+        (below < u32::from(self.bounds.bottom)).then(|| below + 1)
+    }
+
     // Draws the blocks of a sheet, with one row between them, down to the lower bound.
     pub fn draw_blocks<S: Surface, R: BreakingRule>(
         &mut self,
@@ -72,10 +80,10 @@ impl Pen {
             else {
                 return;
             };
-            if below >= u32::from(self.bounds.bottom) {
+            let Some(next) = self.next_block(below) else {
                 return;
-            }
-            y = below + 1;
+            };
+            y = next;
         }
     }
 }

@@ -11,6 +11,7 @@ ghost use Rattle.drawings.specs.Frames.{Drawn};
 ghost use Rattle.paint.specs.Pens.{frame_of};
 
 use super::pen::Pen;
+use super::rules::stride;
 use drawings::{Alignment, Corners};
 use layout::{entries_of, is_growing, layout_columns, row_height, widths_of};
 use page::Surface;
@@ -94,7 +95,7 @@ impl Pen {
                 *width,
                 height,
             );
-            x += u32::from(*width) + 3;
+            x += stride(*width);
             bits /= 4;
         }
     }

@@ -38,7 +38,7 @@ loop-entry-preserved g c =
     let ws = c.next.new.self.b.rest.now in
     let rest = c.next.new.self.a.rest.now in
     let w = c.in-Some.width.now in
-    let n = c.from.result in
+    let n = c.stride-x.result in
     let glyphs = c.glyphs_in-glyphs.result.now in
     let al = c.convert_alignment.result in
     let steps = c.in-Some.ensures.steps in
@@ -49,8 +49,8 @@ loop-entry-preserved g c =
       near = omega arith;
       pen = c.draw_entry.ensures.bounds ∙ l.invariant.pen;
       high = (height_left b gs us ws ss rest w a.height c.in-Some.entry.now steps.1 steps.0 l.invariant.high).1;
-      drawn = onward-more s.shows s.held s.rest s.lawful (frame_of a.self.now) whole (entries_from b l.bits l.x a.y us (map line ss)) strokes (entries_from b (l.bits / 4) (l.x + (n + 3)) a.y ws (map line rest)) a.page.now l.page c.draw_entry.new.page
-          (entry_step b l.bits l.x a.y gs us ws ss rest w n c.in-Some.entry.now al glyphs steps.1 steps.0 c.convert_alignment.ensures.value c.glyphs_in-glyphs.ensures.value c.from.ensures)
+      drawn = onward-more s.shows s.held s.rest s.lawful (frame_of a.self.now) whole (entries_from b l.bits l.x a.y us (map line ss)) strokes (entries_from b (l.bits / 4) (l.x + n) a.y ws (map line rest)) a.page.now l.page c.draw_entry.new.page
+          (entry_step b l.bits l.x a.y gs us ws ss rest w n c.in-Some.entry.now al glyphs steps.1 steps.0 c.convert_alignment.ensures.value c.glyphs_in-glyphs.ensures.value c.stride-x.ensures.value)
           l.invariant.drawn
           (subst P l.invariant.pen c.draw_entry.ensures.after);
     }

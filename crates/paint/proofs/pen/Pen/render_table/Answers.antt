@@ -21,7 +21,7 @@ returns-then-top-from-clause-after g c =
     let ws = final_widths a.width (a.streaming && a.info.open) rs in
     let strokes = table_strokes b a.border a.info.alignments ws a.top rs in
     drawn-unseen s.shows s.held s.rest s.lawful (frame_of a.self.now) strokes a.page.now
-      (unseen_below (frame_of a.self.now) 0 (span_of ws) a.top (a.top + rows_at b ws rs) strokes (omega arith) (table_lies b a.border a.info.alignments ws a.top rs))
+    (unseen_below (frame_of a.self.now) 0 (span_of ws) a.top (a.top + rows_at b ws rs) strokes (omega arith) (table_lies b a.border a.info.alignments ws a.top rs))
 
 pub returns-in_err-y-clause-after : goal.returns-in_err-y-clause-after
 returns-in_err-y-clause-after g c =
