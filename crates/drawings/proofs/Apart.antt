@@ -6,13 +6,13 @@ use Rattle.style.specs.declared.Style.{Style}
 use Rattle.glyphs.specs.declared.Glyph.{Glyph}
 use Rattle.wrap_laws.specs.Breaks.{Breaking, counted, columns, places, rows}
 use Rattle.blocks.specs.Pieces.{Line, Piece, text, table}
-use Rattle.layout_laws.specs.Layouts.{row_height, rows_at, final_widths, text_rows, block_rows}
+use Rattle.layout_laws.specs.Layouts.{row_height, final_widths, text_rows, block_rows}
 use Rattle.records.specs.declared.kinds.Alignment.{Alignment}
 use Rattle.records.specs.declared.kinds.Alignment.TheVariants.{Left}
 use Rattle.drawings.specs.declared.Corners.{Corners}
 use Rattle.drawings.specs.Strokes.{Stroke, stroke, symbol_in, indent, glyph_strokes, row_strokes, aligned_strokes, rows_strokes, line_strokes, text_strokes}
 use Rattle.drawings.specs.Tables.{upper, inner, lower, bar, dash, alignment, dashes, rule_from, rule_strokes, borders_from, borders, entries_from, table_row, body, below_head, below_rule, table_strokes, body_rows, below_head_rows, below_rule_rows}
-use Rattle.drawings.specs.Drawings.{block_strokes, blocks_strokes, drawing}
+use Rattle.drawings.specs.Drawings.{block_strokes, blocks_strokes}
 use Rattle.drawings.specs.Pages.{Elsewhere, Apart}
 use Rattle.drawings.proofs.Lists.{Lies, AllLie, all-append, all-each}
 use Rattle.drawings.proofs.RowPlaces.{IsRow, places_are_rows, glyph_lies, row_lies, aligned_lies, rows_lie, line_lies, text_lies}
@@ -46,8 +46,8 @@ glyph_apart w x y g =
     cond_both (eqb (counted w g) 0) [] (stroke x y (symbol_in w g) g.style ∷ cond (ltb 1 (counted w g)) (stroke (x + 1) y [] g.style ∷ []) []) Apart
     (λ e. tt)
     (λ e. cond_both (ltb 1 (counted w g)) (stroke (x + 1) y [] g.style ∷ []) [] (λ ps. Apart (stroke x y (symbol_in w g) g.style ∷ ps))
-       (λ h. ((λ i j. omega (arith, i), tt), (tt, tt)))
-       (λ h. (tt, tt)))
+    (λ h. ((λ i j. omega (arith, i), tt), (tt, tt)))
+    (λ h. (tt, tt)))
 
 row_apart : (w x y : ℕ) (gs : List Glyph) → Apart (row_strokes w x y gs)
 row_apart w x y [] = tt
@@ -86,12 +86,13 @@ rule_apart t c corner x y [] = (tt, tt)
 rule_apart t c corner x y (w ∷ ws) =
     let next = x + (w + 3) in
     let line = dashes t (x + 1) y (w + 2) in
-    let left = rule_from t c c.middle next y ws in
-    (all-append (Elsewhere (stroke x y corner t)) line left
-       (first_apart x y corner t (x + 1) (x + 1 + (w + 2)) y (y + 1) line (omega arith) (dashes_lie t (x + 1) y (w + 2)))
-       (first_apart x y corner t next (next + span_of ws) y (y + 1) left (omega arith) (rule_lies t c c.middle next y ws)),
-     apart-append line left (dashes_apart t (x + 1) y (w + 2)) (rule_apart t c c.middle next y ws)
-       (cross_right (x + 1) (x + 1 + (w + 2)) y (y + 1) next (next + span_of ws) y (y + 1) line left (omega arith) (dashes_lie t (x + 1) y (w + 2)) (rule_lies t c c.middle next y ws)))
+    let left = rule_from t c c.middle next y ws in (
+      all-append (Elsewhere (stroke x y corner t)) line left
+          (first_apart x y corner t (x + 1) (x + 1 + (w + 2)) y (y + 1) line (omega arith) (dashes_lie t (x + 1) y (w + 2)))
+          (first_apart x y corner t next (next + span_of ws) y (y + 1) left (omega arith) (rule_lies t c c.middle next y ws)),
+      apart-append line left (dashes_apart t (x + 1) y (w + 2)) (rule_apart t c c.middle next y ws)
+          (cross_right (x + 1) (x + 1 + (w + 2)) y (y + 1) next (next + span_of ws) y (y + 1) line left (omega arith) (dashes_lie t (x + 1) y (w + 2)) (rule_lies t c c.middle next y ws)),
+    )
 
 borders_from_apart : (t : Style) (x y : ℕ) (ws : List ℕ) → Apart (borders_from t x y ws)
 borders_from_apart t x y [] = (tt, tt)
@@ -133,13 +134,14 @@ borders_beside b t bits x y z (w ∷ ws) (e ∷ es) =
     let next = x + (w + 3) in
     let line = line_strokes b (alignment bits) w (x + 2) z e in
     let left = entries_from b (bits / 4) next z ws es in
-    let right = next + span_of ws in
-    (all-each (Lies (x + 2) (x + span_of (w ∷ ws)) z (z + row_height b (w ∷ ws) (e ∷ es))) (Beside (stroke x y bar t)) (line ++ left) (λ q j i. omega (arith, i, j.from_x)) (entries_lie b bits x z (w ∷ ws) (e ∷ es)),
-     all-both (Lies next right y (y + 1)) (λ p. AllByRecursion (Beside p) left) (λ p. AllByRecursion (Beside p) (line ++ left)) (borders_from t next y ws)
-       (λ p l m. all-append (Beside p) line left
+    let right = next + span_of ws in (
+      all-each (Lies (x + 2) (x + span_of (w ∷ ws)) z (z + row_height b (w ∷ ws) (e ∷ es))) (Beside (stroke x y bar t)) (line ++ left) (λ q j i. omega (arith, i, j.from_x)) (entries_lie b bits x z (w ∷ ws) (e ∷ es)),
+      all-both (Lies next right y (y + 1)) (λ p. AllByRecursion (Beside p) left) (λ p. AllByRecursion (Beside p) (line ++ left)) (borders_from t next y ws)
+          (λ p l m. all-append (Beside p) line left
           (all-each (Lies (x + 2) (x + 2 + w) z (z + rows b e w)) (Beside p) line (λ q j i. omega (arith, i, j.to_x, l.from_x)) (line_lies b (alignment bits) w (x + 2) z e))
           m)
-       (borders_from_lie t next y ws) (borders_beside b t (bits / 4) next y z ws es))
+          (borders_from_lie t next y ws) (borders_beside b t (bits / 4) next y z ws es),
+    )
 
 all_borders_beside : (b : Breaking) (t : Style) (bits y z : ℕ) (ws : List ℕ) (es : List Line) (h : ℕ) → AllByRecursion (λ p. AllByRecursion (Beside p) (entries_from b bits 0 z ws es)) (borders t y ws h)
 all_borders_beside b t bits y z ws es zero = tt
@@ -152,8 +154,8 @@ table_row_apart b t bits ws y es =
     let entries = entries_from b bits 0 y ws es in
     apart-append (borders t y ws h) entries (borders_apart t y ws h) (entries_apart b bits 0 y ws es)
     (all-each (λ p. AllByRecursion (Beside p) entries) (λ p. AllByRecursion (Elsewhere p) entries) (borders t y ws h)
-      (λ p m. all-each (Beside p) (Elsewhere p) entries (λ q k e f. k e) m)
-      (all_borders_beside b t bits y y ws es h))
+    (λ p m. all-each (Beside p) (Elsewhere p) entries (λ q k e f. k e) m)
+    (all_borders_beside b t bits y y ws es h))
 
 body_apart : (b : Breaking) (t : Style) (bits : ℕ) (ws : List ℕ) (y : ℕ) (rs : List (List Line)) → Apart (body b t bits ws y rs)
 body_apart b t bits ws y [] = rule_apart t lower lower.left 0 y ws

@@ -1,5 +1,5 @@
 -- Strokes that stand apart, drawn one after another through the frame of an area, make the page that a paint makes.
-use Rattle.std.proofs.Common.{◌≡◌, ℕ, ◌+◌, ◌-◌, ◌<◌, ◌≤◌, Bool, true, false, cond, ◌&&◌, eqb, ltb, leb, List, [], ◌∷◌, Some, None, Option, refl, sym, ap, ◌∙◌, ◌⊎◌, ⊎_elim, arith}
+use Rattle.std.proofs.Common.{◌≡◌, ℕ, ◌-◌, Bool, true, false, cond, ◌&&◌, eqb, List, [], ◌∷◌, Some, refl, sym, ap, ◌∙◌, ◌⊎◌, ⊎_elim, arith}
 use Rattle.std.specs.List.{AllByRecursion}
 use Rattle.std.proofs.lemmas.Bool.{cases_Bool, cond-true, cond-false, eqb-true, and_parts, false_from_ne_true}
 use Rattle.std.proofs.lemmas.Bool.Decides.{nat_tests}
@@ -26,9 +26,9 @@ trail_rest f w h i j x y c p (q ∷ ps) same here away =
     let px = eqb-true p.x x parts.0 in
     let py = eqb-true p.y y parts.1 in
     let not_here : at x y q ≡ false =
-        false_from_ne_true (at x y q)
-        (λ e. let more = and_parts (eqb q.x x) (eqb q.y y) e in
-          away.0 (px ∙ sym (eqb-true q.x x more.0)) (py ∙ sym (eqb-true q.y y more.1))) in
+    false_from_ne_true (at x y q)
+    (λ e. let more = and_parts (eqb q.x x) (eqb q.y y) e in
+    away.0 (px ∙ sym (eqb-true q.x x more.0)) (py ∙ sym (eqb-true q.y y more.1))) in
     ap (λ b. trail f w h i j (cond b (stroked q c) c) ps) (same q ∙ not_here) ∙ trail_rest f w h i j x y c p ps same here away.1
 
 trail_at : (f : Frame) (w h i j x y : ℕ) (c : Cell) (ps : List Stroke) → ((q : Stroke) → lands f w h i j q ≡ at x y q) → Apart ps → trail f w h i j c ps ≡ drawn_on (stroke_at ps x y) c
@@ -37,13 +37,13 @@ trail_at f w h i j x y c (p ∷ ps) same apart =
     ap (λ b. trail f w h i j (cond b (stroked p c) c) ps) (same p)
     ∙ ⊎_elim
     (λ yes.
-      ap (λ b. trail f w h i j (cond b (stroked p c) c) ps) yes
-      ∙ trail_rest f w h i j x y (stroked p c) p ps same yes apart.0
-      ∙ sym (ap (λ o. drawn_on o c) (cond-true (at x y p) (Some p) (stroke_at ps x y) yes)))
+    ap (λ b. trail f w h i j (cond b (stroked p c) c) ps) yes
+    ∙ trail_rest f w h i j x y (stroked p c) p ps same yes apart.0
+    ∙ sym (ap (λ o. drawn_on o c) (cond-true (at x y p) (Some p) (stroke_at ps x y) yes)))
     (λ no.
-      ap (λ b. trail f w h i j (cond b (stroked p c) c) ps) no
-      ∙ trail_at f w h i j x y c ps same apart.1
-      ∙ sym (ap (λ o. drawn_on o c) (cond-false (at x y p) (Some p) (stroke_at ps x y) no)))
+    ap (λ b. trail f w h i j (cond b (stroked p c) c) ps) no
+    ∙ trail_at f w h i j x y c ps same apart.1
+    ∙ sym (ap (λ o. drawn_on o c) (cond-false (at x y p) (Some p) (stroke_at ps x y) no)))
     (cases_Bool (at x y p))
 
 -- A stroke lands on a cell of the area exactly if it stands at its place, counted from the corner.
@@ -64,11 +64,11 @@ trail_painted a w h i j f ps on apart =
     let y = j - a.y in
     ⊎_elim
     (λ yes.
-      trail_at (frame_in a) w h i j x y (f i j) ps (λ p. lands_at a w h i j p on yes) apart
-      ∙ sym (cond-true (in_area a i j) (drawn_on (stroke_at ps x y) (f i j)) (f i j) yes))
+    trail_at (frame_in a) w h i j x y (f i j) ps (λ p. lands_at a w h i j p on yes) apart
+    ∙ sym (cond-true (in_area a i j) (drawn_on (stroke_at ps x y) (f i j)) (f i j) yes))
     (λ no.
-      trail_off (frame_in a) w h i j (f i j) ps (λ p. lands_off a w h i j p no)
-      ∙ sym (cond-false (in_area a i j) (drawn_on (stroke_at ps x y) (f i j)) (f i j) no))
+    trail_off (frame_in a) w h i j (f i j) ps (λ p. lands_off a w h i j p no)
+    ∙ sym (cond-false (in_area a i j) (drawn_on (stroke_at ps x y) (f i j)) (f i j) no))
     (cases_Bool (in_area a i j))
 
 no_cell : (a : Area) (i j : ℕ) → (a.width ≡ 0) ⊎ (a.height ≡ 0) → in_area a i j ≡ false
@@ -90,9 +90,9 @@ pub paint-empty : {A : Type 0} (shows : A → Page) (held : A → List ℕ) (res
 paint-empty shows held rest lawful a ps s e =
     record {
       cells = λ i j.
-        let c = (shows s).cell i j in
-        let off : in_area a i j ≡ false = no_cell a i j e in
-        sym (cond-false (in_area a i j) (drawn_on (stroke_at ps (i - a.x) (j - a.y)) c) c off);
+          let c = (shows s).cell i j in
+          let off : in_area a i j ≡ false = no_cell a i j e in
+          sym (cond-false (in_area a i j) (drawn_on (stroke_at ps (i - a.x) (j - a.y)) c) c off);
       as_wide = refl;
       as_high = refl;
       kept = refl;

@@ -1,8 +1,7 @@
 -- Where the strokes of glyphs, rows and lines lie.
-use Rattle.std.proofs.Common.{◌≡◌, ℕ, zero, suc, max, ◌+◌, ◌-◌, ◌*◌, ◌/◌, ◌<◌, ◌≤◌, true, false, cond, eqb, ltb, List, [], ◌∷◌, ◌++◌, length, take, drop, refl, sym, subst, ap, ◌∙◌, ⊎_elim, arith}
+use Rattle.std.proofs.Common.{◌≡◌, ℕ, zero, suc, max, ◌+◌, ◌-◌, ◌≤◌, cond, eqb, ltb, List, [], ◌∷◌, length, sym, ap, arith}
 use Rattle.std.specs.List.{AllByRecursion, slice_range}
-use Rattle.std.proofs.lemmas.Bool.{cases_Bool, cond-true, cond-false, cond_both, eqb-true, eqb-false, ltb-true}
-use Rattle.std.proofs.lemmas.Bool.Decides.{nat_tests}
+use Rattle.std.proofs.lemmas.Bool.{cond_both, eqb-false, ltb-true}
 use Rattle.std.proofs.lemmas.List.Sums.{sum_by-cons}
 use Rattle.glyphs.specs.declared.Glyph.{Glyph}
 use Rattle.wrap_laws.specs.Breaks.{Breaking, counted, columns, places_from, places, rows}
@@ -11,7 +10,7 @@ use Rattle.blocks.specs.Pieces.{Line}
 use Rattle.layout_laws.specs.Layouts.{text_rows}
 use Rattle.records.specs.declared.kinds.Alignment.{Alignment}
 use Rattle.records.specs.declared.kinds.Alignment.TheVariants.{Left, Centre, Right}
-use Rattle.drawings.specs.Strokes.{Stroke, stroke, symbol_in, glyph_strokes, row_strokes, indent, aligned_strokes, rows_strokes, line_strokes, text_strokes}
+use Rattle.drawings.specs.Strokes.{stroke, symbol_in, glyph_strokes, row_strokes, indent, aligned_strokes, rows_strokes, line_strokes, text_strokes}
 use Rattle.drawings.proofs.Lists.{Lies, AllLie, all-append, lie_in}
 
 -- A glyph's strokes lie in the cells that it counts.
@@ -21,12 +20,13 @@ glyph_lies w x y g =
     (AllLie x (x + counted w g) y (y + 1))
     (λ e. tt)
     (λ e.
-      let some : counted w g ≡ 0 → _ = eqb-false (counted w g) 0 e in
-      let one : 1 ≤ counted w g = omega (arith, some) in
-      (record { from_x = omega arith; to_x = omega arith; from_y = omega arith; to_y = omega arith },
-       cond_both (ltb 1 (counted w g)) (stroke (x + 1) y [] g.style ∷ []) [] (AllLie x (x + counted w g) y (y + 1))
-       (λ h. let two = ltb-true 1 (counted w g) h in (record { from_x = omega arith; to_x = omega arith; from_y = omega arith; to_y = omega arith }, tt))
-       (λ h. tt)))
+    let some : counted w g ≡ 0 → _ = eqb-false (counted w g) 0 e in
+    let one : 1 ≤ counted w g = omega (arith, some) in (
+      record { from_x = omega arith; to_x = omega arith; from_y = omega arith; to_y = omega arith },
+      cond_both (ltb 1 (counted w g)) (stroke (x + 1) y [] g.style ∷ []) [] (AllLie x (x + counted w g) y (y + 1))
+          (λ h. let two = ltb-true 1 (counted w g) h in (record { from_x = omega arith; to_x = omega arith; from_y = omega arith; to_y = omega arith }, tt))
+          (λ h. tt),
+    ))
 
 -- A row's strokes lie in the cells that its glyphs count.
 pub row_lies : (w x y : ℕ) (gs : List Glyph) → AllLie x (x + columns w gs) y (y + 1) (row_strokes w x y gs)
@@ -54,10 +54,10 @@ places_from_rows b line w zero s = tt
 places_from_rows b line w (suc n) s =
     cond_both (ltb s (length line)) ((s, (b.breaks line w s).0) ∷ places_from b.breaks line w n (b.breaks line w s).1) [] (AllByRecursion (IsRow line w))
     (λ e.
-      let h = ltb-true s (length line) e in
-      let o = b.ordered line w s h in
-      let on = b.onward line w s h in
-      (record { ordered = o.0; inside = omega (arith, o.1, on.1); fits = b.narrow line w s h }, places_from_rows b line w n (b.breaks line w s).1))
+    let h = ltb-true s (length line) e in
+    let o = b.ordered line w s h in
+    let on = b.onward line w s h in
+    (record { ordered = o.0; inside = omega (arith, o.1, on.1); fits = b.narrow line w s h }, places_from_rows b line w n (b.breaks line w s).1))
     (λ e. tt)
 
 pub places_are_rows : (b : Breaking) (line : Line) (w s : ℕ) → AllByRecursion (IsRow line w) (places b line w s)

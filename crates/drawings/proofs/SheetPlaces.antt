@@ -1,5 +1,5 @@
 -- Where the strokes of blocks lie.
-use Rattle.std.proofs.Common.{◌≡◌, ℕ, ◌+◌, ◌<◌, ◌≤◌, max, Bool, ◌&&◌, List, [], ◌∷◌, ◌++◌, arith}
+use Rattle.std.proofs.Common.{ℕ, ◌+◌, max, Bool, ◌&&◌, List, [], ◌∷◌, arith}
 use Rattle.style.specs.declared.Style.{Style}
 use Rattle.wrap_laws.specs.Breaks.{Breaking}
 use Rattle.blocks.specs.Pieces.{Piece, text, table}

@@ -1,5 +1,5 @@
 -- How strokes through a frame add up, and which of them change nothing.
-use Rattle.std.proofs.Common.{◌≡◌, ℕ, ◌+◌, ◌<◌, ◌≤◌, Bool, true, false, cond, ◌&&◌, eqb, ltb, leb, List, [], ◌∷◌, ◌++◌, length, fold, min, max, is_ok, Result, Some, None, Option, refl, sym, ap, subst, ◌∙◌, ⊎_elim, arith}
+use Rattle.std.proofs.Common.{◌≡◌, ℕ, ◌+◌, ◌<◌, Bool, true, false, cond, ◌&&◌, eqb, List, [], ◌∷◌, ◌++◌, length, min, max, is_ok, Result, Some, None, Option, refl, sym, ap, subst, ◌∙◌, ⊎_elim, arith}
 use Rattle.std.specs.List.{AllByRecursion}
 use Rattle.std.proofs.lemmas.Bool.{cases_Bool, cond-true, cond-false, cond_both, true≢false}
 use Rattle.std.proofs.lemmas.Bool.Decides.{nat_tests}
@@ -51,19 +51,19 @@ put_lands f w h x y a b i j bs t c ok wide high on e g k =
     let p = stroke x y bs t in
     ⊎_elim
     (λ yes.
-      let in_i : i ≡ a = grind (arith, nat_tests) in
-      let in_j : j ≡ b = grind (arith, nat_tests) in
-      let here : (eqb i a && eqb j b) ≡ true = grind (arith, nat_tests) in
-      let admitted : ok ≡ taken p = grind (arith, nat_tests) in
-      ap (λ v. cond ok v (c i j)) (cond-true (eqb i a && eqb j b) (inked (symbol_of bs) t (c a b)) (c i j) here)
-      ∙ ap (λ v. cond v (inked (symbol_of bs) t (c a b)) (c i j)) admitted
-      ∙ ap (λ v. cond (taken p) (inked (symbol_of bs) t (c v b)) (c i j)) (sym in_i)
-      ∙ ap (λ v. cond (taken p) (inked (symbol_of bs) t (c i v)) (c i j)) (sym in_j)
-      ∙ sym (cond-true (lands f w h i j p) (stroked p (c i j)) (c i j) yes))
+    let in_i : i ≡ a = grind (arith, nat_tests) in
+    let in_j : j ≡ b = grind (arith, nat_tests) in
+    let here : (eqb i a && eqb j b) ≡ true = grind (arith, nat_tests) in
+    let admitted : ok ≡ taken p = grind (arith, nat_tests) in
+    ap (λ v. cond ok v (c i j)) (cond-true (eqb i a && eqb j b) (inked (symbol_of bs) t (c a b)) (c i j) here)
+    ∙ ap (λ v. cond v (inked (symbol_of bs) t (c a b)) (c i j)) admitted
+    ∙ ap (λ v. cond (taken p) (inked (symbol_of bs) t (c v b)) (c i j)) (sym in_i)
+    ∙ ap (λ v. cond (taken p) (inked (symbol_of bs) t (c i v)) (c i j)) (sym in_j)
+    ∙ sym (cond-true (lands f w h i j p) (stroked p (c i j)) (c i j) yes))
     (λ no.
-      let away : (ok && (eqb i a && eqb j b)) ≡ false = grind (arith, nat_tests) in
-      left_alone ok (eqb i a && eqb j b) (inked (symbol_of bs) t (c a b)) (c i j) away
-      ∙ sym (cond-false (lands f w h i j p) (stroked p (c i j)) (c i j) no))
+    let away : (ok && (eqb i a && eqb j b)) ≡ false = grind (arith, nat_tests) in
+    left_alone ok (eqb i a && eqb j b) (inked (symbol_of bs) t (c a b)) (c i j) away
+    ∙ sym (cond-false (lands f w h i j p) (stroked p (c i j)) (c i j) no))
     (cases_Bool (lands f w h i j p))
 
 column_of : Option (ℕ × ℕ) → ℕ
@@ -79,13 +79,12 @@ unfolding column_of row_of
 place_on f x y a b e =
     ⊎_elim
     (λ yes.
-      let q = sym (cond-true (bounded f x y) (Some (min 65535 (f.x + x), min 65535 (f.y + y))) None yes) ∙ e in
-      (yes, sym (ap column_of q), sym (ap row_of q)))
+    let q = sym (cond-true (bounded f x y) (Some (min 65535 (f.x + x), min 65535 (f.y + y))) None yes) ∙ e in
+    (yes, sym (ap column_of q), sym (ap row_of q)))
     (λ no. let q = sym (cond-false (bounded f x y) (Some (min 65535 (f.x + x), min 65535 (f.y + y))) None no) ∙ e in absurd (cc))
     (cases_Bool (bounded f x y))
 
 module _ {A : Type 0} (shows : A → Page) (held : A → List ℕ) (rest : A → List ℕ → ℕ → ℕ → Cell) (lawful : A → Type 0) where
-
   -- Nothing is drawn.
   pub drawn-none : (f : Frame) (s : A) → Drawn shows held rest lawful f [] s s
   drawn-none f s = record { cells = λ i j. refl; as_wide = refl; as_high = refl; kept = refl; hidden = λ p i j. refl; still = λ l. l }
@@ -107,9 +106,9 @@ module _ {A : Type 0} (shows : A → Page) (held : A → List ℕ) (rest : A →
   drawn-untaken f p s e =
       record {
         cells = λ i j.
-          let c = (shows s).cell i j in
-          let b = lands f (shows s).wide (shows s).high i j p in
-          sym (ap (λ v. cond b (cond v (inked (symbol_of p.symbol) p.style c) c) c) e ∙ cond_both b c c (λ v. v ≡ c) (λ _. refl) (λ _. refl));
+            let c = (shows s).cell i j in
+            let b = lands f (shows s).wide (shows s).high i j p in
+            sym (ap (λ v. cond b (cond v (inked (symbol_of p.symbol) p.style c) c) c) e ∙ cond_both b c c (λ v. v ≡ c) (λ _. refl) (λ _. refl));
         as_wide = refl;
         as_high = refl;
         kept = refl;
@@ -122,11 +121,11 @@ module _ {A : Type 0} (shows : A → Page) (held : A → List ℕ) (rest : A →
   drawn-append f ps qs s t u d e =
       record {
         cells = λ i j.
-          e.cells i j
-          ∙ ap (λ w. trail f w (shows t).high i j ((shows t).cell i j) qs) d.as_wide
-          ∙ ap (λ h. trail f (shows s).wide h i j ((shows t).cell i j) qs) d.as_high
-          ∙ ap (λ c. trail f (shows s).wide (shows s).high i j c qs) (d.cells i j)
-          ∙ sym (fold-append (λ c p. cond (lands f (shows s).wide (shows s).high i j p) (stroked p c) c) ((shows s).cell i j) ps qs);
+            e.cells i j
+            ∙ ap (λ w. trail f w (shows t).high i j ((shows t).cell i j) qs) d.as_wide
+            ∙ ap (λ h. trail f (shows s).wide h i j ((shows t).cell i j) qs) d.as_high
+            ∙ ap (λ c. trail f (shows s).wide (shows s).high i j c qs) (d.cells i j)
+            ∙ sym (fold-append (λ c p. cond (lands f (shows s).wide (shows s).high i j p) (stroked p c) c) ((shows s).cell i j) ps qs);
         as_wide = e.as_wide ∙ d.as_wide;
         as_high = e.as_high ∙ d.as_high;
         kept = e.kept ∙ d.kept;
@@ -152,9 +151,9 @@ module _ {A : Type 0} (shows : A → Page) (held : A → List ℕ) (rest : A →
       let o = place_on f x y a b e in
       record {
         cells = λ i j.
-          p.cells i j
-          ∙ put_lands f (shows s).wide (shows s).high x y a b i j bs t (shows s).cell (is_ok r) (shows s).narrow (shows s).short o.0 o.1 o.2
-              (put_ok (inside (shows s).wide (shows s).high a b) (length bs) t (stroke x y bs t) r refl refl p.value);
+            p.cells i j
+            ∙ put_lands f (shows s).wide (shows s).high x y a b i j bs t (shows s).cell (is_ok r) (shows s).narrow (shows s).short o.0 o.1 o.2
+            (put_ok (inside (shows s).wide (shows s).high a b) (length bs) t (stroke x y bs t) r refl refl p.value);
         as_wide = p.as_wide;
         as_high = p.as_high;
         kept = p.kept;

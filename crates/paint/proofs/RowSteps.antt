@@ -1,5 +1,5 @@
 -- What is left of a row after a glyph, and the bytes of a symbol as they are put.
-use Rattle.std.proofs.Common.{◌≡◌, ℕ, zero, suc, ◌+◌, ◌-◌, ◌/◌, ◌%◌, ◌<◌, ◌≤◌, List, [], ◌∷◌, ◌++◌, length, get_or, take, drop, leb, false, refl, sym, ap, ◌∙◌, arith}
+use Rattle.std.proofs.Common.{◌≡◌, ℕ, zero, suc, ◌+◌, ◌-◌, ◌/◌, ◌%◌, ◌<◌, ◌≤◌, List, ◌∷◌, ◌++◌, length, get_or, take, drop, leb, false, refl, sym, ap, ◌∙◌, arith}
 use Rattle.std.specs.List.{slice_range}
 use Rattle.std.proofs.lemmas.Bool.{and_left, lt-leb}
 use Rattle.std.proofs.lemmas.List.{at_drop_more}
@@ -9,7 +9,7 @@ use Rattle.style.specs.Symbols.{unpacked, bytes_of}
 use Rattle.style.specs.Styles.{known_colours}
 use Rattle.glyphs.specs.declared.Glyph.{Glyph}
 use Rattle.wrap_laws.specs.Breaks.{no_glyph, counted}
-use Rattle.drawings.specs.Strokes.{Stroke, stroke, glyph_strokes, row_strokes}
+use Rattle.drawings.specs.Strokes.{stroke, glyph_strokes, row_strokes}
 use Rattle.drawings.specs.Pages.{taken}
 
 -- After a glyph that counts n cells the others of its row are left.

@@ -3,7 +3,7 @@ use Rattle.std.proofs.Common.{◌≡◌, ℕ, suc, ◌+◌, ◌<◌, List, [], �
 use Rattle.std.proofs.lemmas.List.{at_drop_more}
 use Rattle.style.specs.declared.Style.{Style}
 use Rattle.drawings.specs.declared.Corners.{Corners}
-use Rattle.drawings.specs.Strokes.{Stroke, stroke}
+use Rattle.drawings.specs.Strokes.{stroke}
 use Rattle.drawings.specs.Tables.{dash, bar, dashes, rule_from, borders_from, borders}
 
 -- After a dash the others are left.
@@ -14,14 +14,16 @@ dashes_step t x y m n e = ap (dashes t x y) e
 pub borders_step : (t : Style) (y m n : ℕ) (ws : List ℕ) → m ≡ suc n → borders t y ws m ≡ borders_from t 0 y ws ++ borders t (y + 1) ws n
 borders_step t y m n ws e = ap (borders t y ws) e
 
--- After a corner and the dashes behind it the rest of the rule is left.
-pub rule_step : (t : Style) (c : Corners) (corner : List ℕ) (x y k w : ℕ) (ws : List ℕ) → k < length ws → w ≡ get_or ws k 0 → rule_from t c corner x y (drop k ws) ≡ (stroke x y corner t ∷ []) ++ (dashes t (x + 1) y (w + 2) ++ rule_from t c c.middle (x + (w + 3)) y (drop (k + 1) ws))
-rule_step t c corner x y k w ws h e =
+-- After a corner and the dashes behind it the rest of the rule is left, n cells further on.
+pub rule_step : (t : Style) (c : Corners) (corner : List ℕ) (x y k w n : ℕ) (ws : List ℕ) → k < length ws → w ≡ get_or ws k 0 → n ≡ get_or ws k 0 + 3 →
+    rule_from t c corner x y (drop k ws) ≡ (stroke x y corner t ∷ []) ++ (dashes t (x + 1) y (w + 2) ++ rule_from t c c.middle (x + n) y (drop (k + 1) ws))
+rule_step t c corner x y k w n ws h e f =
     at_drop_more (rule_from t c corner x y) ws k 0 h
-    ∙ ap (λ v. stroke x y corner t ∷ (dashes t (x + 1) y (v + 2) ++ rule_from t c c.middle (x + (v + 3)) y (drop (k + 1) ws))) (sym e)
+    ∙ ap (λ v. stroke x y corner t ∷ (dashes t (x + 1) y (v + 2) ++ rule_from t c c.middle (x + (get_or ws k 0 + 3)) y (drop (k + 1) ws))) (sym e)
+    ∙ ap (λ v. stroke x y corner t ∷ (dashes t (x + 1) y (w + 2) ++ rule_from t c c.middle (x + v) y (drop (k + 1) ws))) (sym f)
 
--- After a border the others are left.
-pub border_step : (t : Style) (x y k w : ℕ) (ws : List ℕ) → k < length ws → w ≡ get_or ws k 0 → borders_from t x y (drop k ws) ≡ (stroke x y bar t ∷ []) ++ borders_from t (x + (w + 3)) y (drop (k + 1) ws)
-border_step t x y k w ws h e =
+-- After a border the others are left, n cells further on.
+pub border_step : (t : Style) (x y k n : ℕ) (ws : List ℕ) → k < length ws → n ≡ get_or ws k 0 + 3 → borders_from t x y (drop k ws) ≡ (stroke x y bar t ∷ []) ++ borders_from t (x + n) y (drop (k + 1) ws)
+border_step t x y k n ws h e =
     at_drop_more (borders_from t x y) ws k 0 h
-    ∙ ap (λ v. stroke x y bar t ∷ borders_from t (x + (v + 3)) y (drop (k + 1) ws)) (sym e)
+    ∙ ap (λ v. stroke x y bar t ∷ borders_from t (x + v) y (drop (k + 1) ws)) (sym e)

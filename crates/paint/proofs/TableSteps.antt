@@ -23,7 +23,6 @@ abbrev pub no_row : Row
 no_row = record { entries = [] }
 
 module _ (b : Breaking) (ws : List ℕ) (gs : List Glyph) (n k : ℕ) (rs : List Row) (ss : List Span) (h : k < length rs) (e : ss ≡ take n (get_or rs k no_row).entries) where
-
   same_entries : map (spanned gs) ss ≡ entries_of gs n (get_or rs k no_row)
   same_entries = ap (map (spanned gs)) e ∙ entries_taken gs n (get_or rs k no_row)
 
@@ -46,7 +45,6 @@ below_head_step b t bits y ws [] h = absurd (omega arith)
 below_head_step b t bits y ws (r ∷ rs) h = refl
 
 module _ (b : Breaking) (ws : List ℕ) (gs : List Glyph) (n : ℕ) (rs rest : List Row) (head : Row) (ss : List Span) (d : rs ≡ head ∷ rest) (e : ss ≡ take n head.entries) where
-
   same_head : map (spanned gs) ss ≡ entries_of gs n head
   same_head = ap (map (spanned gs)) e ∙ entries_taken gs n head
 

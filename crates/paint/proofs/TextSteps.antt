@@ -16,7 +16,6 @@ abbrev pub no_span : Span
 no_span = record { start = 0; len = 0 }
 
 module _ (b : Breaking) (w k : ℕ) (gs : List Glyph) (ls : List Span) (line : Line) (h : k < length ls) (e : line ≡ spanned gs (get_or ls k no_span)) where
-
   -- After a line whose rows end above row n the others are left.
   pub text_step : (y n : ℕ) → n ≡ y + rows b line w → text_strokes b w y (map (spanned gs) (drop k ls)) ≡ line_strokes b Left w 0 y line ++ text_strokes b w n (map (spanned gs) (drop (k + 1) ls))
   text_step y n f =

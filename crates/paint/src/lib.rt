@@ -44,7 +44,14 @@ fn lies_on(area: Area, sides: Sides) -> bool
 
 // Draws a sheet in an area of a page, tables lined in the border's style. It is refused where the area
 // passes the edge of the page.
-pub fn render<S: Surface, R: BreakingRule>(page: &mut S, area: Area, rule: &R, sheet: &Records, streaming: bool, border: Style) -> Result<(), Refusal>
+pub fn render<S: Surface, R: BreakingRule>(
+    page: &mut S,
+    area: Area,
+    rule: &R,
+    sheet: &Records,
+    streaming: bool,
+    border: Style,
+) -> Result<(), Refusal>
     ensures answer { result ≡ answered area (S.Surface.shows page.old).wide (S.Surface.shows page.old).high }
     ensures after { is_ok result ≡ true → Paint S.Surface.shows S.Surface.held S.Surface.rest S.Surface.lawful area (drawing (R.BreakingRule.meaning rule.now) area.width streaming border (blocks_of sheet.now)) page.old page.new }
     ensures same { is_ok result ≡ false → page.new ≡ page.old }

@@ -38,7 +38,15 @@ fn indent(alignment: Alignment, width: u16, cells: u16) -> u16
 
 impl Pen {
     // Draws a row that is aligned in the `width` cells from a column on.
-    fn draw_aligned<S: Surface>(&self, page: &mut S, alignment: Alignment, x: u32, y: u32, width: u16, glyphs: &[Glyph])
+    fn draw_aligned<S: Surface>(
+        &self,
+        page: &mut S,
+        alignment: Alignment,
+        x: u32,
+        y: u32,
+        width: u16,
+        glyphs: &[Glyph],
+    )
         requires near { x < 131072 }
         requires fits { columns width glyphs.now ≤ width }
         ensures after { Drawn S.Surface.shows S.Surface.held S.Surface.rest S.Surface.lawful (frame_of self.now) (aligned_strokes alignment width x y glyphs.now) page.old page.new }
@@ -49,7 +57,16 @@ impl Pen {
 
     // Draws a line that is broken into rows of `width` cells, and tells the row below it; none where
     // drawing stopped at the lower bound.
-    pub fn draw_line<S: Surface, R: BreakingRule>(&self, page: &mut S, rule: &R, line: &[Glyph], alignment: Alignment, x: u32, top: u32, width: u16) -> Option<u32>
+    pub fn draw_line<S: Surface, R: BreakingRule>(
+        &self,
+        page: &mut S,
+        rule: &R,
+        line: &[Glyph],
+        alignment: Alignment,
+        x: u32,
+        top: u32,
+        width: u16,
+    ) -> Option<u32>
         requires near { x < 131072 }
         requires low { top < 65536 }
         ensures after { Drawn S.Surface.shows S.Surface.held S.Surface.rest S.Surface.lawful (frame_of self.now) (line_strokes (R.BreakingRule.meaning rule.now) alignment width x top line.now) page.old page.new }

@@ -63,7 +63,14 @@ impl Pen {
     }
 
     // Draws glyphs one after another from a column on, in a row of `width` cells.
-    pub fn draw_row<S: Surface>(&self, page: &mut S, start: u32, y: u32, width: u16, glyphs: &[Glyph])
+    pub fn draw_row<S: Surface>(
+        &self,
+        page: &mut S,
+        start: u32,
+        y: u32,
+        width: u16,
+        glyphs: &[Glyph],
+    )
         ensures after { Drawn S.Surface.shows S.Surface.held S.Surface.rest S.Surface.lawful (frame_of self.now) (row_strokes width start y glyphs.now) page.old page.new }
     {
         let mut x = start;

@@ -16,6 +16,16 @@ const DASH: [u8; 3] = [0xE2, 0x94, 0x80];
 // │
 const BAR: [u8; 3] = [0xE2, 0x94, 0x82];
 
+// The cells beside an entry that stay as they are.
+const PADDING: u32 = 2;
+
+// How many cells a column takes with the border at its left and the cells beside its entry.
+pub fn stride(width: u16) -> u32
+    ensures value { result ≡ width + 3 }
+{
+    u32::from(width) + PADDING + 1
+}
+
 impl Pen {
     // Draws so many dashes from a column on.
     fn draw_dashes<S: Surface>(&self, page: &mut S, x: u32, y: u32, count: u32, style: Style)
@@ -32,7 +42,14 @@ impl Pen {
     }
 
     // Draws a rule in its row.
-    fn draw_rule_at<S: Surface>(&self, page: &mut S, widths: &[u16], y: u32, corners: Corners, style: Style)
+    fn draw_rule_at<S: Surface>(
+        &self,
+        page: &mut S,
+        widths: &[u16],
+        y: u32,
+        corners: Corners,
+        style: Style,
+    )
         ensures after { Drawn S.Surface.shows S.Surface.held S.Surface.rest S.Surface.lawful (frame_of self.now) (rule_strokes style corners y widths.now) page.old page.new }
     {
         let mut x = 0;
@@ -43,8 +60,8 @@ impl Pen {
             }
             let cells = u32::from(*width);
             self.put(page, x, y, &corner, style);
-            self.draw_dashes(page, x + 1, y, cells + 2, style);
-            x += cells + 3;
+            self.draw_dashes(page, x + 1, y, cells + PADDING, style);
+            x += stride(*width);
             corner = corners.middle;
         }
         self.put(page, x, y, &corners.right, style);
@@ -52,7 +69,14 @@ impl Pen {
 
     // Draws a rule over columns of these widths, and tells the row below it; none where drawing stopped at
     // the lower bound.
-    pub fn draw_rule<S: Surface>(&self, page: &mut S, widths: &[u16], y: u32, corners: Corners, style: Style) -> Option<u32>
+    pub fn draw_rule<S: Surface>(
+        &self,
+        page: &mut S,
+        widths: &[u16],
+        y: u32,
+        corners: Corners,
+        style: Style,
+    ) -> Option<u32>
         ensures after { Drawn S.Surface.shows S.Surface.held S.Surface.rest S.Surface.lawful (frame_of self.now) (rule_strokes style corners y widths.now) page.old page.new }
         ensures below { MatchOption result (self.now.bounds.bottom ≤ y) (λ n. n ≡ y + 1) }
     {
@@ -72,15 +96,21 @@ impl Pen {
             if x >= u32::from(self.bounds.right) {
                 return;
             }
-            let cells = u32::from(*width);
             self.put(page, x, y, &BAR, style);
-            x += cells + 3;
+            x += stride(*width);
         }
         self.put(page, x, y, &BAR, style);
     }
 
     // Draws the borders of columns in so many rows.
-    pub fn draw_borders<S: Surface>(&self, page: &mut S, widths: &[u16], top: u32, height: u16, style: Style)
+    pub fn draw_borders<S: Surface>(
+        &self,
+        page: &mut S,
+        widths: &[u16],
+        top: u32,
+        height: u16,
+        style: Style,
+    )
         requires { top < 65536 }
         ensures after { Drawn S.Surface.shows S.Surface.held S.Surface.rest S.Surface.lawful (frame_of self.now) (borders style top widths.now height) page.old page.new }
     {

@@ -15,31 +15,75 @@ use wrap::BreakingRule;
 
 impl Pen {
     // Draws a block, and tells the row below it; none where drawing stopped at the lower bound.
-    fn draw_block<S: Surface, R: BreakingRule>(&mut self, page: &mut S, rule: &R, sheet: &Records, block: &Block, width: u16, streaming: bool, border: Style, top: u32) -> Option<u32>
+    fn draw_block<S: Surface, R: BreakingRule>(
+        &mut self,
+        page: &mut S,
+        rule: &R,
+        sheet: &Records,
+        block: &Block,
+        width: u16,
+        streaming: bool,
+        border: Style,
+        top: u32,
+    ) -> Option<u32>
         ensures after { Drawn S.Surface.shows S.Surface.held S.Surface.rest S.Surface.lawful (frame_of self.old) (block_strokes (R.BreakingRule.meaning rule.now) width streaming border top (piece_of sheet.now.glyphs sheet.now.lines sheet.now.rows block.now)) page.old page.new }
         ensures bounds { self.new ≡ self.old }
         ensures below { MatchOption result (self.old.bounds.bottom ≤ top + block_rows (R.BreakingRule.meaning rule.now) width streaming (piece_of sheet.now.glyphs sheet.now.lines sheet.now.rows block.now)) (λ n. n ≡ top + block_rows (R.BreakingRule.meaning rule.now) width streaming (piece_of sheet.now.glyphs sheet.now.lines sheet.now.rows block.now)) }
     {
         match *block {
-            Block::Text(lines) => self.draw_text(page, rule, sheet, sheet.lines_in(lines), top, width),
-            Block::Table(info, rows) => self.render_table(page, rule, sheet, info, sheet.rows_in(rows), width, streaming, border, top),
+            Block::Text(lines) => self.draw_text(
+                page,
+                rule,
+                sheet,
+                sheet.lines_in(lines),
+                top,
+                width,
+            ),
+            Block::Table(info, rows) => self.render_table(
+                page,
+                rule,
+                sheet,
+                info,
+                sheet.rows_in(rows),
+                width,
+                streaming,
+                border,
+                top,
+            ),
         }
     }
 
+    // Where the block behind one that ends above this row begins: one row stands between them. None where
+    // that is past the lower bound.
+    fn next_block(&self, below: u32) -> Option<u32>
+        ensures cases { MatchOption result (self.now.bounds.bottom ≤ below) (λ n. n ≡ below + 1) }
+    {
+        (below < u32::from(self.bounds.bottom)).then(|| below + 1)
+    }
+
     // Draws the blocks of a sheet, with one row between them, down to the lower bound.
-    pub fn draw_blocks<S: Surface, R: BreakingRule>(&mut self, page: &mut S, rule: &R, sheet: &Records, width: u16, streaming: bool, border: Style)
+    pub fn draw_blocks<S: Surface, R: BreakingRule>(
+        &mut self,
+        page: &mut S,
+        rule: &R,
+        sheet: &Records,
+        width: u16,
+        streaming: bool,
+        border: Style,
+    )
         ensures after { Drawn S.Surface.shows S.Surface.held S.Surface.rest S.Surface.lawful (frame_of self.old) (drawing (R.BreakingRule.meaning rule.now) width streaming border (blocks_of sheet.now)) page.old page.new }
         ensures bounds { self.new ≡ self.old }
     {
         let mut y = 0;
         for block in sheet.blocks() {
-            let Some(below) = self.draw_block(page, rule, sheet, block, width, streaming, border, y) else {
+            let Some(below) = self.draw_block(page, rule, sheet, block, width, streaming, border, y)
+            else {
                 return;
             };
-            if below >= u32::from(self.bounds.bottom) {
+            let Some(next) = self.next_block(below) else {
                 return;
-            }
-            y = below + 1;
+            };
+            y = next;
         }
     }
 }

@@ -11,6 +11,7 @@ ghost use Rattle.drawings.specs.Frames.{Drawn};
 ghost use Rattle.paint.specs.Pens.{frame_of};
 
 use super::pen::Pen;
+use super::rules::stride;
 use drawings::Corners;
 use layout::{entries_of, is_growing, layout_columns, row_height, widths_of};
 use page::Surface;
@@ -61,7 +62,17 @@ fn convert_alignment(bits: u64) -> Alignment
 
 impl Pen {
     // Draws the entries of a row in the `height` rows from row y on, each in its column.
-    fn draw_entries<S: Surface, R: BreakingRule>(&mut self, page: &mut S, rule: &R, sheet: &Records, entries: &[Span], widths: &[u16], alignments: u64, y: u16, height: u16)
+    fn draw_entries<S: Surface, R: BreakingRule>(
+        &mut self,
+        page: &mut S,
+        rule: &R,
+        sheet: &Records,
+        entries: &[Span],
+        widths: &[u16],
+        alignments: u64,
+        y: u16,
+        height: u16,
+    )
         requires { row_height (R.BreakingRule.meaning rule.now) widths.now (map (spanned sheet.now.glyphs) entries.now) ≤ height }
         ensures after { Drawn S.Surface.shows S.Surface.held S.Surface.rest S.Surface.lawful (frame_of self.old) (entries_from (R.BreakingRule.meaning rule.now) alignments 0 y widths.now (map (spanned sheet.now.glyphs) entries.now)) page.old page.new }
         ensures bounds { self.new ≡ self.old }
@@ -74,15 +85,32 @@ impl Pen {
                 return;
             }
             let glyphs = sheet.glyphs_in(*entry);
-            self.draw_entry(page, rule, glyphs, convert_alignment(bits), (x + 2) as u16, y, *width, height);
-            x += u32::from(*width) + 3;
+            self.draw_entry(
+                page,
+                rule,
+                glyphs,
+                convert_alignment(bits),
+                (x + 2) as u16,
+                y,
+                *width,
+                height,
+            );
+            x += stride(*width);
             bits /= 4;
         }
     }
 
     // Draws a row of a table: its borders and its entries. Tells the row below it; none where drawing
     // stopped at the lower bound.
-    fn draw_cells<S: Surface, R: BreakingRule>(&mut self, page: &mut S, rule: &R, sheet: &Records, entries: &[Span], columns: Columns, top: u32) -> Option<u32>
+    fn draw_cells<S: Surface, R: BreakingRule>(
+        &mut self,
+        page: &mut S,
+        rule: &R,
+        sheet: &Records,
+        entries: &[Span],
+        columns: Columns,
+        top: u32,
+    ) -> Option<u32>
         ensures after { Drawn S.Surface.shows S.Surface.held S.Surface.rest S.Surface.lawful (frame_of self.old) (table_row (R.BreakingRule.meaning rule.now) columns.entry.border columns.entry.alignments columns.entry.widths.now top (map (spanned sheet.now.glyphs) entries.now)) page.old page.new }
         ensures bounds { self.new ≡ self.old }
         ensures below { MatchOption result (self.old.bounds.bottom ≤ top) (λ n. n ≡ top + row_height (R.BreakingRule.meaning rule.now) columns.entry.widths.now (map (spanned sheet.now.glyphs) entries.now)) }
@@ -92,13 +120,31 @@ impl Pen {
         }
         let height = row_height(rule, sheet, entries, columns.widths);
         self.draw_borders(page, columns.widths, top, height, columns.border);
-        self.draw_entries(page, rule, sheet, entries, columns.widths, columns.alignments, top as u16, height);
+        self.draw_entries(
+            page,
+            rule,
+            sheet,
+            entries,
+            columns.widths,
+            columns.alignments,
+            top as u16,
+            height,
+        );
         Some(top + u32::from(height))
     }
 
     // Draws the body rows of a table and the rule below them, and tells the row below that; none where
     // drawing stopped at the lower bound.
-    fn draw_body<S: Surface, R: BreakingRule>(&mut self, page: &mut S, rule: &R, sheet: &Records, rows: &[Row], count: u8, columns: Columns, top: u32) -> Option<u32>
+    fn draw_body<S: Surface, R: BreakingRule>(
+        &mut self,
+        page: &mut S,
+        rule: &R,
+        sheet: &Records,
+        rows: &[Row],
+        count: u8,
+        columns: Columns,
+        top: u32,
+    ) -> Option<u32>
         ensures after { Drawn S.Surface.shows S.Surface.held S.Surface.rest S.Surface.lawful (frame_of self.old) (body (R.BreakingRule.meaning rule.now) columns.entry.border columns.entry.alignments columns.entry.widths.now top (map (entries_of sheet.now.glyphs count) rows.now)) page.old page.new }
         ensures bounds { self.new ≡ self.old }
         ensures below { MatchOption result (self.old.bounds.bottom ≤ top + body_rows (R.BreakingRule.meaning rule.now) columns.entry.widths.now (map (entries_of sheet.now.glyphs count) rows.now)) (λ n. n ≡ top + body_rows (R.BreakingRule.meaning rule.now) columns.entry.widths.now (map (entries_of sheet.now.glyphs count) rows.now)) }
@@ -113,7 +159,16 @@ impl Pen {
 
     // Draws what stands below the header of a table: the rule below the table, or, where there are body
     // rows, a rule and then these.
-    fn draw_below_head<S: Surface, R: BreakingRule>(&mut self, page: &mut S, rule: &R, sheet: &Records, rows: &[Row], count: u8, columns: Columns, top: u32) -> Option<u32>
+    fn draw_below_head<S: Surface, R: BreakingRule>(
+        &mut self,
+        page: &mut S,
+        rule: &R,
+        sheet: &Records,
+        rows: &[Row],
+        count: u8,
+        columns: Columns,
+        top: u32,
+    ) -> Option<u32>
         ensures after { Drawn S.Surface.shows S.Surface.held S.Surface.rest S.Surface.lawful (frame_of self.old) (below_head (R.BreakingRule.meaning rule.now) columns.entry.border columns.entry.alignments columns.entry.widths.now top (map (entries_of sheet.now.glyphs count) rows.now)) page.old page.new }
         ensures bounds { self.new ≡ self.old }
         ensures below { MatchOption result (self.old.bounds.bottom ≤ top + below_head_rows (R.BreakingRule.meaning rule.now) columns.entry.widths.now (map (entries_of sheet.now.glyphs count) rows.now)) (λ n. n ≡ top + below_head_rows (R.BreakingRule.meaning rule.now) columns.entry.widths.now (map (entries_of sheet.now.glyphs count) rows.now)) }
@@ -126,7 +181,16 @@ impl Pen {
     }
 
     // Draws what stands below the upper rule of a table: the header first.
-    fn draw_below_rule<S: Surface, R: BreakingRule>(&mut self, page: &mut S, rule: &R, sheet: &Records, rows: &[Row], count: u8, columns: Columns, top: u32) -> Option<u32>
+    fn draw_below_rule<S: Surface, R: BreakingRule>(
+        &mut self,
+        page: &mut S,
+        rule: &R,
+        sheet: &Records,
+        rows: &[Row],
+        count: u8,
+        columns: Columns,
+        top: u32,
+    ) -> Option<u32>
         ensures after { Drawn S.Surface.shows S.Surface.held S.Surface.rest S.Surface.lawful (frame_of self.old) (below_rule (R.BreakingRule.meaning rule.now) columns.entry.border columns.entry.alignments columns.entry.widths.now top (map (entries_of sheet.now.glyphs count) rows.now)) page.old page.new }
         ensures bounds { self.new ≡ self.old }
         ensures below { MatchOption result (self.old.bounds.bottom ≤ top + below_rule_rows (R.BreakingRule.meaning rule.now) columns.entry.widths.now (map (entries_of sheet.now.glyphs count) rows.now)) (λ n. n ≡ top + below_rule_rows (R.BreakingRule.meaning rule.now) columns.entry.widths.now (map (entries_of sheet.now.glyphs count) rows.now)) }
@@ -141,11 +205,25 @@ impl Pen {
 
     // Draws a table on a page of this width, lined in a style, and tells the row below it; none where
     // drawing stopped at the lower bound.
-    pub fn render_table<S: Surface, R: BreakingRule>(&mut self, page: &mut S, rule: &R, sheet: &Records, info: Info, rows: &[Row], width: u16, streaming: bool, border: Style, top: u32) -> Option<u32>
+    pub fn render_table<S: Surface, R: BreakingRule>(
+        &mut self,
+        page: &mut S,
+        rule: &R,
+        sheet: &Records,
+        info: Info,
+        rows: &[Row],
+        width: u16,
+        streaming: bool,
+        border: Style,
+        top: u32,
+    ) -> Option<u32>
         ensures after { Drawn S.Surface.shows S.Surface.held S.Surface.rest S.Surface.lawful (frame_of self.old) (block_strokes (R.BreakingRule.meaning rule.now) width streaming border top (table info (map (entries_of sheet.now.glyphs info.columns) rows.now))) page.old page.new }
         ensures bounds { self.new ≡ self.old }
         ensures below { MatchOption result (self.old.bounds.bottom ≤ top + block_rows (R.BreakingRule.meaning rule.now) width streaming (table info (map (entries_of sheet.now.glyphs info.columns) rows.now))) (λ n. n ≡ top + block_rows (R.BreakingRule.meaning rule.now) width streaming (table info (map (entries_of sheet.now.glyphs info.columns) rows.now))) }
     {
+        if top >= u32::from(self.bounds.bottom) {
+            return None;
+        }
         let growing = is_growing(info, streaming);
         let layout = layout_columns(sheet, rows, info.columns, width, growing);
         let columns = Columns {

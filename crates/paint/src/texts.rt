@@ -15,7 +15,15 @@ use wrap::BreakingRule;
 impl Pen {
     // Draws the lines of a text in rows of `width` cells, and tells the row below it; none where drawing
     // stopped at the lower bound.
-    pub fn draw_text<S: Surface, R: BreakingRule>(&self, page: &mut S, rule: &R, sheet: &Records, lines: &[Span], top: u32, width: u16) -> Option<u32>
+    pub fn draw_text<S: Surface, R: BreakingRule>(
+        &self,
+        page: &mut S,
+        rule: &R,
+        sheet: &Records,
+        lines: &[Span],
+        top: u32,
+        width: u16,
+    ) -> Option<u32>
         ensures after { Drawn S.Surface.shows S.Surface.held S.Surface.rest S.Surface.lawful (frame_of self.now) (text_strokes (R.BreakingRule.meaning rule.now) width top (map (spanned sheet.now.glyphs) lines.now)) page.old page.new }
         ensures below { MatchOption result (self.now.bounds.bottom ≤ top + text_rows (R.BreakingRule.meaning rule.now) width (map (spanned sheet.now.glyphs) lines.now)) (λ n. n ≡ top + text_rows (R.BreakingRule.meaning rule.now) width (map (spanned sheet.now.glyphs) lines.now)) }
     {

@@ -1,4 +1,4 @@
-use Rattle.std.proofs.Common.{◌≡◌, ℕ, ◌+◌, ◌≤◌, map, MatchOption, refl, subst, sym, ◌∙◌, ap, arith}
+use Rattle.std.proofs.Common.{◌≡◌, ℕ, ◌+◌, ◌≤◌, map, MatchOption, refl, subst, arith}
 use Rattle.records.specs.Memory.{spanned}
 use Rattle.blocks.specs.Reads.{entries_of}
 use Rattle.layout_laws.specs.Layouts.{row_height}
@@ -29,10 +29,10 @@ returns-in_err-y-clause-after g c =
     let page = c.draw_cells.new.page in
     let whole = below_rule b t bits ws a.top (map (entries_of gs a.count) a.rows.now) in
     let more = onward-more s.shows s.held s.rest s.lawful (frame_of a.self.now) whole whole (table_row b t bits ws a.top es) (below_head b t bits ws next rest) a.page.now a.page.now page
-      (below_rule_step b ws gs a.count a.rows.now c.in-Some.rows.now c.in-Some.head.now ss c.in-Some.ensures.cases.0 c.entries_of-entries.ensures.value t bits a.top next refl)
-      (onward-start s.shows s.held s.rest s.lawful (frame_of a.self.now) whole a.page.now) c.draw_cells.ensures.after in
+    (below_rule_step b ws gs a.count a.rows.now c.in-Some.rows.now c.in-Some.head.now ss c.in-Some.ensures.cases.0 c.entries_of-entries.ensures.value t bits a.top next refl)
+    (onward-start s.shows s.held s.rest s.lawful (frame_of a.self.now) whole a.page.now) c.draw_cells.ensures.after in
     onward-unseen s.shows s.held s.rest s.lawful (frame_of a.self.now) whole (below_head b t bits ws next rest) a.page.now page more
-      (unseen_below (frame_of a.self.now) 0 (span_of ws) next (next + below_head_rows b ws rest) (below_head b t bits ws next rest) (omega (arith, c.in_err-y.ensures.below)) (below_head_lies b t bits ws next rest))
+    (unseen_below (frame_of a.self.now) 0 (span_of ws) next (next + below_head_rows b ws rest) (below_head b t bits ws next rest) (omega (arith, c.in_err-y.ensures.below)) (below_head_lies b t bits ws next rest))
 
 pub returns-clause-after : goal.returns-clause-after
 returns-clause-after g c =
@@ -51,8 +51,8 @@ returns-clause-after g c =
     let whole = below_rule b t bits ws a.top (map (entries_of gs a.count) a.rows.now) in
     let P : Pen → Type 0 = λ p. Drawn s.shows s.held s.rest s.lawful (frame_of p) (below_head b t bits ws next rest) page c.draw_below_head.new.page in
     let more = onward-more s.shows s.held s.rest s.lawful (frame_of a.self.now) whole whole (table_row b t bits ws a.top es) (below_head b t bits ws next rest) a.page.now a.page.now page
-      (below_rule_step b ws gs a.count a.rows.now c.in-Some.rows.now c.in-Some.head.now ss c.in-Some.ensures.cases.0 c.entries_of-entries.ensures.value t bits a.top next c.in_ok-y.ensures.below)
-      (onward-start s.shows s.held s.rest s.lawful (frame_of a.self.now) whole a.page.now) c.draw_cells.ensures.after in
+    (below_rule_step b ws gs a.count a.rows.now c.in-Some.rows.now c.in-Some.head.now ss c.in-Some.ensures.cases.0 c.entries_of-entries.ensures.value t bits a.top next c.in_ok-y.ensures.below)
+    (onward-start s.shows s.held s.rest s.lawful (frame_of a.self.now) whole a.page.now) c.draw_cells.ensures.after in
     more c.draw_below_head.new.page (subst P c.draw_cells.ensures.bounds c.draw_below_head.ensures.after)
 
 pub returns-clause-below : goal.returns-clause-below

@@ -1,4 +1,4 @@
-use Rattle.std.proofs.Common.{◌≡◌, ◌+◌, ◌<◌, ◌≤◌, map, length, drop, refl, subst, ◌∙◌, arith}
+use Rattle.std.proofs.Common.{◌+◌, ◌<◌, ◌≤◌, map, length, drop, refl, subst, ◌∙◌, arith}
 use Rattle.records.specs.Memory.{spanned}
 use Rattle.blocks.specs.Reads.{entries_of}
 use Rattle.layout_laws.specs.Layouts.{row_height}
@@ -32,11 +32,11 @@ returns-in_err-y-clause-after g c =
     let whole = body b t bits ws a.top (map entries a.rows.now) in
     let P : Pen → Type 0 = λ p. Drawn s.shows s.held s.rest s.lawful (frame_of p) (table_row b t bits ws l.y es) l.page c.draw_cells.new.page in
     let more = onward-more s.shows s.held s.rest s.lawful (frame_of a.self.now) whole (body b t bits ws l.y (map entries (drop k a.rows.now))) (table_row b t bits ws l.y es) (body b t bits ws next left) a.page.now l.page c.draw_cells.new.page
-      (body_step b ws gs a.count k a.rows.now ss (omega arith) c.entries_of-entries.ensures.value t bits l.y next refl) l.invariant.drawn (subst P l.invariant.pen c.draw_cells.ensures.after) in
+    (body_step b ws gs a.count k a.rows.now ss (omega arith) c.entries_of-entries.ensures.value t bits l.y next refl) l.invariant.drawn (subst P l.invariant.pen c.draw_cells.ensures.after) in
     let Q : Pen → Type 0 = λ p. p.bounds.bottom ≤ l.y in
     let low = subst Q l.invariant.pen c.in_err-y.ensures.below in
     onward-unseen s.shows s.held s.rest s.lawful (frame_of a.self.now) whole (body b t bits ws next left) a.page.now c.draw_cells.new.page more
-      (unseen_below (frame_of a.self.now) 0 (span_of ws) next (next + body_rows b ws left) (body b t bits ws next left) (omega (arith, low)) (body_lies b t bits ws next left))
+    (unseen_below (frame_of a.self.now) 0 (span_of ws) next (next + body_rows b ws left) (body b t bits ws next left) (omega (arith, low)) (body_lies b t bits ws next left))
 
 pub loop-row-preserved : goal.loop-row-preserved
 loop-row-preserved g c =

@@ -1,4 +1,4 @@
-use Rattle.std.proofs.Common.{◌≡◌, ◌+◌, ◌-◌, [], ap, arith}
+use Rattle.std.proofs.Common.{◌≡◌, ◌+◌, ◌-◌, ap, arith}
 use Rattle.drawings.specs.Tables.{borders_from, borders}
 use Rattle.drawings.proofs.Lists.{unseen_below}
 use Rattle.drawings.proofs.RulePlaces.{span_of, borders_lie}
@@ -26,7 +26,7 @@ loop-y-preserved g c =
     let here = a.top + a.height - l.y in
     let left = a.top + a.height - (l.y + 1) in
     onward-more s.shows s.held s.rest s.lawful (frame_of a.self.now) (borders a.style a.top a.widths.now a.height) (borders a.style l.y a.widths.now here) (borders_from a.style 0 l.y a.widths.now) (borders a.style (l.y + 1) a.widths.now left) a.page.now l.page c.draw_borders_at.new.page
-      (borders_step a.style l.y here left a.widths.now (omega arith)) l.invariant c.draw_borders_at.ensures.after
+    (borders_step a.style l.y here left a.widths.now (omega arith)) l.invariant c.draw_borders_at.ensures.after
 
 pub returns : goal.returns
 returns g c =

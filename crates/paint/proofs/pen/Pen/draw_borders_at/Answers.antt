@@ -1,4 +1,4 @@
-use Rattle.std.proofs.Common.{◌≡◌, ◌+◌, ◌-◌, [], ◌∷◌, drop, arith}
+use Rattle.std.proofs.Common.{◌+◌, [], ◌∷◌, drop, arith}
 use Rattle.drawings.specs.Strokes.{stroke}
 use Rattle.drawings.specs.Tables.{bar, borders_from}
 use Rattle.drawings.proofs.Lists.{unseen_right}
@@ -25,6 +25,6 @@ loop-width-preserved g c =
     let a = c.args in
     let l = c.loop-width in
     let k = l.width-index in
-    let w = c.from-cells.result in
-    onward-more s.shows s.held s.rest s.lawful (frame_of a.self.now) (borders_from a.style 0 a.y a.widths.now) (borders_from a.style l.x a.y (drop k a.widths.now)) (stroke l.x a.y bar a.style ∷ []) (borders_from a.style (l.x + (w + 3)) a.y (drop (k + 1) a.widths.now)) a.page.now l.page c.put.new.page
-      (border_step a.style l.x a.y k w a.widths.now (omega arith) c.from-cells.ensures) l.invariant c.put.ensures.after
+    let n = c.stride-x.result in
+    onward-more s.shows s.held s.rest s.lawful (frame_of a.self.now) (borders_from a.style 0 a.y a.widths.now) (borders_from a.style l.x a.y (drop k a.widths.now)) (stroke l.x a.y bar a.style ∷ []) (borders_from a.style (l.x + n) a.y (drop (k + 1) a.widths.now)) a.page.now l.page c.put.new.page
+    (border_step a.style l.x a.y k n a.widths.now (omega arith) c.stride-x.ensures.value) l.invariant c.put.ensures.after

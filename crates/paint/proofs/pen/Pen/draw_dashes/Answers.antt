@@ -27,7 +27,7 @@ loop-at-preserved g c =
     let here = a.x + a.count - l.at in
     let left = a.x + a.count - (l.at + 1) in
     onward-more s.shows s.held s.rest s.lawful (frame_of a.self.now) (dashes a.style a.x a.y a.count) (dashes a.style l.at a.y here) (stroke l.at a.y dash a.style ∷ []) (dashes a.style (l.at + 1) a.y left) a.page.now l.page c.put.new.page
-      (dashes_step a.style l.at a.y here left (omega arith)) l.invariant c.put.ensures.after
+    (dashes_step a.style l.at a.y here left (omega arith)) l.invariant c.put.ensures.after
 
 pub returns : goal.returns
 returns g c =

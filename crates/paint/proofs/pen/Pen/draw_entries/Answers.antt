@@ -1,4 +1,4 @@
-use Rattle.std.proofs.Common.{◌≡◌, ℕ, ◌+◌, ◌/◌, ◌<◌, ◌≤◌, map, inl, inr, ap, sym, subst, ◌∙◌, ⊎_elim, arith}
+use Rattle.std.proofs.Common.{◌+◌, ◌/◌, map, inl, inr, subst, ◌∙◌, ⊎_elim, arith}
 use Rattle.records.specs.Memory.{spanned}
 use Rattle.layout_laws.specs.Layouts.{row_height}
 use Rattle.drawings.specs.Strokes.{line_strokes}
@@ -23,7 +23,7 @@ returns-then-x-right-clause-after g c =
     let ws = l.entry-iterator.b.rest.now in
     let es = map line l.entry-iterator.a.rest.now in
     onward-unseen s.shows s.held s.rest s.lawful (frame_of a.self.now) (entries_from b a.alignments 0 a.y a.widths.now (map line a.entries.now)) (entries_from b l.bits l.x a.y ws es) a.page.now l.page l.invariant.drawn
-      (unseen_right (frame_of a.self.now) (l.x + 2) (l.x + span_of ws) a.y (a.y + row_height b ws es) (entries_from b l.bits l.x a.y ws es) (omega arith) (entries_lie b l.bits l.x a.y ws es))
+    (unseen_right (frame_of a.self.now) (l.x + 2) (l.x + span_of ws) a.y (a.y + row_height b ws es) (entries_from b l.bits l.x a.y ws es) (omega arith) (entries_lie b l.bits l.x a.y ws es))
 
 pub loop-entry-preserved : goal.loop-entry-preserved
 loop-entry-preserved g c =
@@ -38,7 +38,7 @@ loop-entry-preserved g c =
     let ws = c.next.new.self.b.rest.now in
     let rest = c.next.new.self.a.rest.now in
     let w = c.in-Some.width.now in
-    let n = c.from.result in
+    let n = c.stride-x.result in
     let glyphs = c.glyphs_in-glyphs.result.now in
     let al = c.convert_alignment.result in
     let steps = c.in-Some.ensures.steps in
@@ -49,8 +49,8 @@ loop-entry-preserved g c =
       near = omega arith;
       pen = c.draw_entry.ensures.bounds ∙ l.invariant.pen;
       high = (height_left b gs us ws ss rest w a.height c.in-Some.entry.now steps.1 steps.0 l.invariant.high).1;
-      drawn = onward-more s.shows s.held s.rest s.lawful (frame_of a.self.now) whole (entries_from b l.bits l.x a.y us (map line ss)) strokes (entries_from b (l.bits / 4) (l.x + (n + 3)) a.y ws (map line rest)) a.page.now l.page c.draw_entry.new.page
-          (entry_step b l.bits l.x a.y gs us ws ss rest w n c.in-Some.entry.now al glyphs steps.1 steps.0 c.convert_alignment.ensures.value c.glyphs_in-glyphs.ensures.value c.from.ensures)
+      drawn = onward-more s.shows s.held s.rest s.lawful (frame_of a.self.now) whole (entries_from b l.bits l.x a.y us (map line ss)) strokes (entries_from b (l.bits / 4) (l.x + n) a.y ws (map line rest)) a.page.now l.page c.draw_entry.new.page
+          (entry_step b l.bits l.x a.y gs us ws ss rest w n c.in-Some.entry.now al glyphs steps.1 steps.0 c.convert_alignment.ensures.value c.glyphs_in-glyphs.ensures.value c.stride-x.ensures.value)
           l.invariant.drawn
           (subst P l.invariant.pen c.draw_entry.ensures.after);
     }
@@ -65,4 +65,4 @@ returns-clause-after g c =
     let ws = l.entry-iterator.b.rest.now in
     let ss = l.entry-iterator.a.rest.now in
     onward-end s.shows s.held s.rest s.lawful (frame_of a.self.now) (entries_from b a.alignments 0 a.y a.widths.now (map (spanned gs) a.entries.now)) (entries_from b l.bits l.x a.y ws (map (spanned gs) ss)) a.page.now l.page l.invariant.drawn
-      (entries_end b l.bits l.x a.y gs ws ss (⊎_elim (λ p. inl p.1.0) (λ p. inr p.1.0) c.in-None.ensures.steps))
+    (entries_end b l.bits l.x a.y gs ws ss (⊎_elim (λ p. inl p.1.0) (λ p. inr p.1.0) c.in-None.ensures.steps))

@@ -1,4 +1,4 @@
-use Rattle.std.proofs.Common.{◌≡◌, ℕ, ◌+◌, ◌≤◌, subst, arith}
+use Rattle.std.proofs.Common.{ℕ, ◌+◌, subst, arith}
 use Rattle.wrap_laws.specs.Breaks.{rows}
 use Rattle.drawings.specs.Strokes.{line_strokes}
 use Rattle.drawings.specs.Frames.{Drawn}
@@ -20,5 +20,5 @@ returns-clause-after g c =
     let Q : ℕ → Type 0 = λ x. Drawn s.shows s.held s.rest s.lawful f (line_strokes b a.alignment a.width x c.from-2.result a.entry.now) a.page.now c.draw_line.new.page in
     let R : ℕ → Type 0 = λ y. Drawn s.shows s.held s.rest s.lawful f (line_strokes b a.alignment a.width a.x y a.entry.now) a.page.now c.draw_line.new.page in
     drawn-cut s.shows s.held s.rest s.lawful (frame_of a.self.now) a.x (a.x + a.width) a.y (a.y + a.height) strokes a.page.now c.draw_line.new.page
-      (lie_in a.x (a.x + a.width) a.y (a.y + rows b a.entry.now a.width) a.x (a.x + a.width) a.y (a.y + a.height) strokes (omega arith) (omega arith) (omega arith) (omega (arith, c.requires)) (line_lies b a.alignment a.width a.x a.y a.entry.now))
-      (subst R c.from-2.ensures (subst Q c.from.ensures (subst P c.cut_to-self.ensures.value c.draw_line.ensures.after)))
+    (lie_in a.x (a.x + a.width) a.y (a.y + rows b a.entry.now a.width) a.x (a.x + a.width) a.y (a.y + a.height) strokes (omega arith) (omega arith) (omega arith) (omega (arith, c.requires)) (line_lies b a.alignment a.width a.x a.y a.entry.now))
+    (subst R c.from-2.ensures (subst Q c.from.ensures (subst P c.cut_to-self.ensures.value c.draw_line.ensures.after)))

@@ -1,6 +1,6 @@
-use Rattle.std.proofs.Common.{◌≡◌, ℕ, ◌+◌, ◌≤◌, List, [], ◌∷◌, length, max, ap, sym, subst, ◌∙◌, arith}
+use Rattle.std.proofs.Common.{◌≡◌, ℕ, ◌+◌, List, [], ◌∷◌, length, ap, sym, subst, arith}
 use Rattle.std.specs.List.{AllByRecursion, slice_range}
-use Rattle.wrap_laws.specs.Breaks.{places, rows}
+use Rattle.wrap_laws.specs.Breaks.{places}
 use Rattle.drawings.specs.Strokes.{aligned_strokes, rows_strokes, line_strokes}
 use Rattle.drawings.proofs.Lists.{unseen_below}
 use Rattle.drawings.proofs.RowPlaces.{IsRow, places_are_rows, rows_lie, rows_counted}
@@ -37,7 +37,7 @@ returns-then-y-from-clause-after g c =
     let it = l.start-iterator in
     let left = places (b it.rule.now) it.line.now it.width it.start in
     onward-unseen s.shows s.held s.rest s.lawful (frame_of a.self.now) (line_strokes (b a.rule.now) a.alignment a.width a.x a.top a.line.now) (rows_strokes a.alignment a.width a.x l.y a.line.now left) a.page.now l.page l.invariant.drawn
-      (unseen_below (frame_of a.self.now) a.x (a.x + a.width) l.y (l.y + length left) (rows_strokes a.alignment a.width a.x l.y a.line.now left) (omega arith) (rows_lie a.alignment a.width a.x l.y a.line.now left l.invariant.fits))
+    (unseen_below (frame_of a.self.now) a.x (a.x + a.width) l.y (l.y + length left) (rows_strokes a.alignment a.width a.x l.y a.line.now left) (omega arith) (rows_lie a.alignment a.width a.x l.y a.line.now left l.invariant.fits))
 
 pub returns-then-y-from-clause-below : goal.returns-then-y-from-clause-below
 returns-then-y-from-clause-below g c =
@@ -78,7 +78,7 @@ returns-clause-after g c =
     let left = places (b it.rule.now) it.line.now it.width it.start in
     let none : left ≡ [] = c.in-None.ensures.steps.0 in
     onward-end s.shows s.held s.rest s.lawful (frame_of a.self.now) (line_strokes (b a.rule.now) a.alignment a.width a.x a.top a.line.now) (rows_strokes a.alignment a.width a.x l.y a.line.now left) a.page.now l.page l.invariant.drawn
-      (ap (rows_strokes a.alignment a.width a.x l.y a.line.now) none)
+    (ap (rows_strokes a.alignment a.width a.x l.y a.line.now) none)
 
 pub returns-clause-below : goal.returns-clause-below
 returns-clause-below g c =

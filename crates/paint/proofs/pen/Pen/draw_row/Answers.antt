@@ -1,4 +1,4 @@
-use Rattle.std.proofs.Common.{◌≡◌, ◌+◌, ◌≤◌, [], drop, get_or, length, ap, ◌∙◌, arith}
+use Rattle.std.proofs.Common.{◌+◌, drop, get_or, ap, ◌∙◌, arith}
 use Rattle.std.proofs.lemmas.List.{drop_all}
 use Rattle.wrap_laws.specs.Breaks.{no_glyph, columns}
 use Rattle.drawings.specs.Strokes.{glyph_strokes, row_strokes}
@@ -27,10 +27,10 @@ loop-glyph-preserved g c =
     let l = c.loop-glyph in
     let k = l.glyph-index in
     onward-more s.shows s.held s.rest s.lawful (frame_of a.self.now) (row_strokes a.width a.start a.y a.glyphs.now) (row_strokes a.width l.x a.y (drop k a.glyphs.now))
-      (glyph_strokes a.width l.x a.y (get_or a.glyphs.now k no_glyph)) (row_strokes a.width (l.x + c.from-x.result) a.y (drop (k + 1) a.glyphs.now)) a.page.now l.page c.draw_glyph.new.page
-      (row_step a.width l.x a.y k c.from-x.result a.glyphs.now (omega arith) (c.from-x.ensures ∙ c.cells_of.ensures.value))
-      l.invariant
-      c.draw_glyph.ensures.after
+    (glyph_strokes a.width l.x a.y (get_or a.glyphs.now k no_glyph)) (row_strokes a.width (l.x + c.from-x.result) a.y (drop (k + 1) a.glyphs.now)) a.page.now l.page c.draw_glyph.new.page
+    (row_step a.width l.x a.y k c.from-x.result a.glyphs.now (omega arith) (c.from-x.ensures ∙ c.cells_of.ensures.value))
+    l.invariant
+    c.draw_glyph.ensures.after
 
 pub returns : goal.returns
 returns g c =

@@ -1,4 +1,4 @@
-use Rattle.std.proofs.Common.{◌≡◌, ◌+◌, ◌-◌, [], ◌∷◌, ◌++◌, drop, arith, refl}
+use Rattle.std.proofs.Common.{◌+◌, [], ◌∷◌, ◌++◌, drop, arith, refl}
 use Rattle.drawings.specs.Strokes.{stroke}
 use Rattle.drawings.specs.Tables.{dashes, rule_from, rule_strokes}
 use Rattle.drawings.proofs.Lists.{unseen_right}
@@ -26,10 +26,11 @@ loop-width-preserved g c =
     let l = c.loop-width in
     let k = l.width-index in
     let w = c.from-cells.result in
+    let n = c.stride-x.result in
     let whole = rule_strokes a.style a.corners a.y a.widths.now in
     let corner = stroke l.x a.y l.corner a.style ∷ [] in
     let line = dashes a.style (l.x + 1) a.y (w + 2) in
-    let left = rule_from a.style a.corners a.corners.middle (l.x + (w + 3)) a.y (drop (k + 1) a.widths.now) in
+    let left = rule_from a.style a.corners a.corners.middle (l.x + n) a.y (drop (k + 1) a.widths.now) in
     let first = onward-more s.shows s.held s.rest s.lawful (frame_of a.self.now) whole (rule_from a.style a.corners l.corner l.x a.y (drop k a.widths.now)) corner (line ++ left) a.page.now l.page c.put.new.page
-      (rule_step a.style a.corners l.corner l.x a.y k w a.widths.now (omega arith) c.from-cells.ensures) l.invariant c.put.ensures.after in
+    (rule_step a.style a.corners l.corner l.x a.y k w n a.widths.now (omega arith) c.from-cells.ensures c.stride-x.ensures.value) l.invariant c.put.ensures.after in
     onward-more s.shows s.held s.rest s.lawful (frame_of a.self.now) whole (line ++ left) line left a.page.now c.put.new.page c.draw_dashes.new.page refl first c.draw_dashes.ensures.after

@@ -1,6 +1,6 @@
-use Rattle.std.proofs.Common.{◌≡◌, ℕ, List, [], ◌∷◌, ◌∙◌, ap, subst, sym, length, arith}
+use Rattle.std.proofs.Common.{ℕ, List, [], ◌∷◌, ◌∙◌, ap, subst, length, arith}
 use Rattle.std.specs.List.{slice_range}
-use Rattle.style.specs.Symbols.{bytes_of, unpacked}
+use Rattle.style.specs.Symbols.{bytes_of}
 use Rattle.drawings.specs.Strokes.{stroke}
 use Rattle.drawings.specs.Frames.{Drawn}
 use Rattle.drawings.proofs.Trails.{drawn-untaken}
