@@ -1,0 +1,128 @@
+// What stands on a page, held against what a test expects there.
+
+use page::{Cell, Surface};
+use std::alloc::{AllocError, Global};
+use style::{Style, Symbol};
+
+// Cells as a page has them before a paint: something else in each place and in each part.
+pub fn old_cell(x: u16, y: u16) -> Cell {
+    let (x, y) = (u32::from(x), u32::from(y));
+    Cell {
+        symbol: Symbol {
+            bytes: u64::from(97 + (7 * x + 3 * y) % 26),
+            len: 1,
+        },
+        fg: ((x + y) % 17) as u8,
+        bg: ((x + 3 * y) % 17) as u8,
+        modifiers: ((5 * x + 11 * y) % 256) as u8,
+    }
+}
+
+// Puts old content on every cell of a fresh row.
+fn age_row<S: Surface>(page: &mut S, y: u16) {
+    for x in 0..page.width() {
+        let old = old_cell(x, y);
+        let style = Style {
+            fg: old.fg,
+            bg: old.bg,
+            add: old.modifiers,
+            remove: 0,
+        };
+        let symbol = old.symbol.to_bytes();
+        let _ = page.put(x, y, &symbol[..1], style);
+    }
+}
+
+// Puts old content on every cell of a fresh page.
+pub fn age<S: Surface>(page: &mut S) {
+    for y in 0..page.height() {
+        age_row(page, y);
+    }
+}
+
+// The symbols of a row of the page, without the spaces at its end.
+fn row_of<S: Surface>(heap: Global, page: &S, y: u16) -> Result<Vec<u8>, AllocError> {
+    let mut row = Vec::new(heap);
+    for x in 0..page.width() {
+        if let Some(cell) = page.read(x, y) {
+            for b in cell
+                .symbol
+                .to_bytes()
+                .iter()
+                .take(usize::from(cell.symbol.len))
+            {
+                row.push(*b)?;
+            }
+        }
+    }
+    while row.as_slice().last() == Some(&b' ') {
+        row.pop();
+    }
+    Ok(row)
+}
+
+// Whether the page shows exactly these rows, spaces at their ends aside.
+pub fn shows<S: Surface>(heap: Global, page: &S, rows: &[&str]) -> Result<bool, AllocError> {
+    let mut y = 0u16;
+    for row in rows {
+        if row_of(heap, page, y)?.as_slice() != row.as_bytes() {
+            return Ok(false);
+        }
+        y = y.saturating_add(1);
+    }
+    Ok(y == page.height())
+}
+
+// The colours and the modifiers of a cell, by a sign.
+pub type Look = (u8, (u8, u8, u8));
+
+fn look_of(looks: &[Look], sign: u8) -> Option<(u8, u8, u8)> {
+    looks.iter().find(|look| look.0 == sign).map(|look| look.1)
+}
+
+// Whether the row's cells look as the signs say.
+fn row_looks<S: Surface>(page: &S, y: u16, signs: &[u8], looks: &[Look]) -> bool {
+    let mut x = 0u16;
+    for sign in signs {
+        let look = page
+            .read(x, y)
+            .map(|cell| (cell.fg, cell.bg, cell.modifiers));
+        if look.is_none() || look != look_of(looks, *sign) {
+            return false;
+        }
+        x = x.saturating_add(1);
+    }
+    x == page.width()
+}
+
+// Whether every cell of the page looks as its sign says.
+pub fn look<S: Surface>(page: &S, rows: &[&str], looks: &[Look]) -> bool {
+    let mut y = 0u16;
+    for row in rows {
+        if !row_looks(page, y, row.as_bytes(), looks) {
+            return false;
+        }
+        y = y.saturating_add(1);
+    }
+    y == page.height()
+}
+
+// Whether a row of two pages is the same.
+fn same_row<L: Surface, R: Surface>(page: &L, other: &R, y: u16) -> bool {
+    (0..page.width()).all(|x| page.read(x, y) == other.read(x, y))
+}
+
+// Whether two pages are of one size and the same in every cell.
+pub fn same<L: Surface, R: Surface>(page: &L, other: &R) -> bool {
+    page.sides() == other.sides() && (0..page.height()).all(|y| same_row(page, other, y))
+}
+
+// Whether two pages are the same in the rows from `from` up to `to`.
+pub fn look_alike<L: Surface, R: Surface>(page: &L, other: &R, from: u16, to: u16) -> bool {
+    (from..to).all(|y| same_row(page, other, y))
+}
+
+// Whether old content stands in the rows from `from` up to `to`.
+pub fn stay<S: Surface>(page: &S, from: u16, to: u16) -> bool {
+    (from..to).all(|y| (0..page.width()).all(|x| page.read(x, y) == Some(old_cell(x, y))))
+}
