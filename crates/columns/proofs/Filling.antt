@@ -1,7 +1,7 @@
 -- What is lent to be shared out, and what comes of it.
 use Rattle.std.proofs.Common.{◌≡◌, ℕ, ◌<◌, ◌≤◌, max, Bool, List, length, get_or, take, Ok, sum, sym, ap, ◌∙◌, arith}
-use Rattle.shares.specs.Shares.{naturals, budget, widths}
-use Rattle.shares.proofs.Totals.{length-naturals, fed_naturals, sum-naturals, shared_most}
+use Rattle.shares.specs.Shares.{naturals, budget, widths, Fed}
+use Rattle.shares.proofs.Totals.{length-shared, length-naturals, sum-naturals, shared_most}
 use Rattle.columns.specs.Layout.{slots, answered}
 use Rattle.columns.proofs.Checks.{answered_few, answered_narrow}
 use Rattle.columns.proofs.Slots.{take-slots}
@@ -17,6 +17,10 @@ module _ (ns : List ℕ) (ok : answered ns ≡ Ok tt) where
   pub lent : (n : ℕ) (arr : List ℕ) → n ≡ max (length ns) 1 → arr ≡ slots (naturals ns) → take n arr ≡ naturals ns
   lent n arr count held = ap (take n) held ∙ take-slots (naturals ns) n (length-naturals ns ∙ sym count)
 
-  pub widths_small : (w : ℕ) (growing : Bool) → w < 65536 → (i : ℕ) → get_or (widths w growing (naturals ns)) i 0 < 65536
-  widths_small w growing h i =
-      let few = naturals_few in omega (arith, shared_most (budget w (length (naturals ns))) growing (naturals ns) (fed_naturals ns) few.0 i)
+-- final widths fit 16 bits
+pub widths_small : (ns : List ℕ) → Fed ns → 0 < length ns → length ns ≤ 32 → (w : ℕ) (growing : Bool) → w < 65536 → (i : ℕ) → get_or (widths w growing ns) i 0 < 65536
+widths_small ns fed some few w growing h i = omega (arith, shared_most (budget w (length ns)) growing ns fed some i)
+
+-- as many final widths as natural ones
+pub as_many : (ns : List ℕ) (w : ℕ) (growing : Bool) → length (widths w growing ns) ≡ length ns
+as_many ns w growing = length-shared (budget w (length ns)) growing ns

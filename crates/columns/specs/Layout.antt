@@ -18,14 +18,13 @@ first_too_wide i (n ∷ ns) = cond (nat_lt 100000 n) (Err (TooWide i)) (first_to
 abbrev pub answered : List ℕ → Result (Unit {0}) Refusal
 answered ns = cond (nat_lt 32 (length ns)) (Err TooManyColumns) (first_too_wide 0 ns)
 
+-- The layout of columns with these natural widths on a page of width w.
+abbrev pub shared_out : ℕ → Bool → List ℕ → ColumnLayout
+shared_out w growing ns = record { count = length ns; natural = slots ns; widths = slots (widths w growing ns); taken = taken w growing ns }
+
 -- The layout of a table on a page of width w.
 abbrev pub laid : ℕ → Bool → List ℕ → ColumnLayout
-laid w growing ns = record {
-  count = length (naturals ns);
-  natural = slots (naturals ns);
-  widths = slots (widths w growing (naturals ns));
-  taken = taken w growing (naturals ns);
-}
+laid w growing ns = shared_out w growing (naturals ns)
 
 -- What the lent place holds afterwards: the layout, or what it held where the question is refused.
 abbrev pub filled : ℕ → Bool → List ℕ → ColumnLayout → ColumnLayout

@@ -17,7 +17,7 @@ ghost use Rattle.columns.specs.Layout.{slots, answered, laid, filled, empty};
 mod sharing;
 
 pub use shares::{MAX_COLUMNS, MAX_NATURAL};
-use sharing::Widths;
+pub use sharing::Widths;
 
 // A table's columns on a page: `count` of the 32 slots are used, the others are 0.
 #[derive(Clone, Copy, Debug, PartialEq, Eq)]
@@ -71,18 +71,11 @@ fn lay_out(width: u16, growing: bool, given: &[u32]) -> ColumnLayout
     ensures { result ≡ laid width growing given.now }
 {
     let count = given.len().max(1);
-    let natural = natural_slots(given);
-    let mut cells = natural;
-    let mut shared = Widths {
-        cells: &mut cells[..count],
+    let mut natural = natural_slots(given);
+    let mut columns = Widths {
+        cells: &mut natural[..count],
     };
-    let taken = shared.share(width, growing);
-    ColumnLayout {
-        count: count as u8,
-        natural,
-        widths: shared.in_slots(),
-        taken,
-    }
+    columns.lay_out(width, growing)
 }
 
 // Fills `layout` with the shares of columns of these natural widths on a page `width` cells wide.

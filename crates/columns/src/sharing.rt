@@ -3,7 +3,7 @@ ghost use Rattle.std.specs.Prelude.{◌≡◌, ℕ, ◌+◌, ◌-◌, ◌^◌, �
 ghost use Rattle.shares.specs.Shares.{Fed, Lowers, budget, shaved, stretched, widths, taken};
 ghost use Rattle.columns.specs.Layout.{slots};
 
-use crate::MAX_COLUMNS;
+use crate::{ColumnLayout, MAX_COLUMNS};
 
 // The widths of a table's columns, which are lent to be changed: one column at least and 32 at most, each of one cell at least.
 #[derive(Drop)]
@@ -16,6 +16,8 @@ pub struct Widths<'a> {
 }
 
 impl Widths<'_> {
+    ghost use Rattle.columns.specs.Layout.{shared_out};
+
     // The place of the widest column, the rightmost of equals.
     fn find_widest(&self) -> usize
         ensures bound { result < length self.now.cells.now }
@@ -75,7 +77,7 @@ impl Widths<'_> {
     }
 
     // Shares the cells of a page out among the columns. Gives the number of cells taken away.
-    pub fn share(&mut self, width: u16, growing: bool) -> u32
+    fn share(&mut self, width: u16, growing: bool) -> u32
         ensures after { self.new.cells.now ≡ widths width growing self.old.cells.now }
         ensures value { result ≡ taken width growing self.old.cells.now }
     {
@@ -91,7 +93,7 @@ impl Widths<'_> {
     }
 
     // The widths in the slots of a layout, in 16 bits.
-    pub fn in_slots(&self) -> [u16; MAX_COLUMNS]
+    fn in_slots(&self) -> [u16; MAX_COLUMNS]
         requires { (i : ℕ) → slice_index self.now.cells.now i < 2 ^ 16 }
         ensures { result ≡ slots self.now.cells.now }
     {
@@ -100,5 +102,30 @@ impl Widths<'_> {
             slots[i] = *w as u16;
         }
         slots
+    }
+
+    // The widths in the slots of a layout, in 32 bits.
+    fn in_wide_slots(&self) -> [u32; MAX_COLUMNS]
+        ensures { result ≡ slots self.now.cells.now }
+    {
+        let mut slots = [0; MAX_COLUMNS];
+        slots[..self.cells.len()].copy_from_slice(self.cells);
+        slots
+    }
+
+    // The layout on a page of columns that have their natural widths. Afterwards they have their final ones.
+    #[tactic(auto, using(crate::proofs::Filling::widths_small, crate::proofs::Filling::as_many))]
+    pub fn lay_out(&mut self, width: u16, growing: bool) -> ColumnLayout
+        ensures after { self.new.cells.now ≡ widths width growing self.old.cells.now }
+        ensures value { result ≡ shared_out width growing self.old.cells.now }
+    {
+        let natural = self.in_wide_slots();
+        let taken = self.share(width, growing);
+        ColumnLayout {
+            count: self.cells.len() as u8,
+            natural,
+            widths: self.in_slots(),
+            taken,
+        }
     }
 }

@@ -1,0 +1,5 @@
+pub mod Strokes
+pub mod Tables
+pub mod Drawings
+pub mod Pages
+pub mod Frames

@@ -1,0 +1,3 @@
+pub mod Widest
+pub mod Wider
+pub mod Counts
