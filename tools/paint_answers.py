@@ -311,8 +311,7 @@ def sheets(name, steps):
     """Sheets as lists of (kind, place, length), and of (kind, end, columns) for a table."""
     out = f"\npub const {name}: [&[Step]; {len(steps)}] = [\n"
     for title, sheet in steps.items():
-        items = "".join(f"        ({load_answers.NAMES[kind]}, {place}, {length}),\n" for kind, place, length in sheet)
-        out += f"    // {title}\n    &[\n{items}    ],\n"
+        out += load_answers.piece(title, [(load_answers.NAMES[kind], place, length) for kind, place, length in sheet])
     return out + "];\n"
 
 

@@ -1,6 +1,6 @@
 // Where a row stands in its column.
 
-use super::looks::{age, old_cell, shows};
+use super::looks::{age, old_cell, shows, symbol_at};
 use super::made::{Draft, area, paint_draft};
 use grid::Grid;
 use page::{Cell, Surface};
@@ -168,11 +168,8 @@ fn spaces_of_a_row_are_put_and_its_slack_is_not(rt: HostRuntime) -> Result<(), F
     assert_eq!(rt; page.read(1, 3), Some(old_cell(1, 3)));
     assert_eq!(rt; page.read(2, 3), Some(old_cell(2, 3)));
     assert_eq!(rt; page.read(3, 3), Some(old_cell(3, 3)));
-    assert_eq!(rt; page.read(4, 3).map(|cell| cell.symbol), Some(a));
-    assert_eq!(rt;
-        page.read(5, 3).map(|cell| cell.symbol),
-        Some(Symbol::SPACE)
-    );
+    assert_eq!(rt; symbol_at(&page, 4, 3), Some(a));
+    assert_eq!(rt; symbol_at(&page, 5, 3), Some(Symbol::SPACE));
     assert_eq!(rt; page.read(6, 3), Some(old_cell(6, 3)));
     Ok(())
 }

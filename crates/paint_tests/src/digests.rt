@@ -7,7 +7,7 @@ use super::made::*;
 use events::event::Event;
 use glyphs::Utf8;
 use grid::Grid;
-use markdown::{Area, Markdown};
+use markdown::Markdown;
 use page::{Cell, Surface};
 use records::kinds::{Row, Span};
 use std::alloc::{AllocError, Global};

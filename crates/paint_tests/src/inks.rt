@@ -1,6 +1,6 @@
 // What a paint puts on cells that hold something, and which of them it leaves.
 
-use super::looks::{age, old_cell, stay};
+use super::looks::{age, old_cell, stay, symbol_at};
 use super::made::{Draft, ITALIC, area, paint_draft};
 use grid::Grid;
 use page::{Cell, Surface};
@@ -118,15 +118,12 @@ fn a_skipped_space_is_not_put(rt: HostRuntime) -> Result<(), Fail> {
         0
     );
     assert_eq!(rt; page.read(2, 0), Some(old_cell(2, 0)));
-    assert_eq!(rt; page.read(0, 1).map(|cell| cell.symbol), Some(symbol(b'c')));
+    assert_eq!(rt; symbol_at(&page, 0, 1), Some(symbol(b'c')));
     assert_eq!(rt;
         paint_draft(&draft, &CuttingRule, area(0, 0, 3, 2), &mut page),
         0
     );
-    assert_eq!(rt;
-        page.read(2, 0).map(|cell| cell.symbol),
-        Some(Symbol::SPACE)
-    );
+    assert_eq!(rt; symbol_at(&page, 2, 0), Some(Symbol::SPACE));
     Ok(())
 }
 

@@ -11,11 +11,11 @@ mod answers;
 #[cfg(test)]
 mod areas;
 #[cfg(test)]
-mod blocks;
-#[cfg(test)]
 mod clipped;
 #[cfg(test)]
 mod digests;
+#[cfg(test)]
+mod flow;
 #[cfg(test)]
 mod inks;
 #[cfg(test)]

@@ -73,24 +73,28 @@ pub fn shows<S: Surface>(heap: Global, page: &S, rows: &[&str]) -> Result<bool, 
     Ok(y == page.height())
 }
 
+// The symbol of a cell.
+pub fn symbol_at<S: Surface>(page: &S, x: u16, y: u16) -> Option<Symbol> {
+    page.read(x, y).map(|cell| cell.symbol)
+}
+
 // The colours and the modifiers of a cell, by a sign.
 pub type Look = (u8, (u8, u8, u8));
 
-fn look_of(looks: &[Look], sign: u8) -> Option<(u8, u8, u8)> {
-    looks.iter().find(|look| look.0 == sign).map(|look| look.1)
+// Whether a cell looks as its sign says.
+fn cell_looks(cell: Cell, sign: u8, looks: &[Look]) -> bool {
+    let shown = (cell.fg, cell.bg, cell.modifiers);
+    looks.contains(&(sign, shown))
 }
 
 // Whether the row's cells look as the signs say.
 fn row_looks<S: Surface>(page: &S, y: u16, signs: &[u8], looks: &[Look]) -> bool {
     let mut x = 0u16;
     for sign in signs {
-        let look = page
-            .read(x, y)
-            .map(|cell| (cell.fg, cell.bg, cell.modifiers));
-        if look.is_none() || look != look_of(looks, *sign) {
-            return false;
+        match page.read(x, y) {
+            Some(cell) if cell_looks(cell, *sign, looks) => x = x.saturating_add(1),
+            _ => return false,
         }
-        x = x.saturating_add(1);
     }
     x == page.width()
 }
@@ -109,20 +113,44 @@ pub fn look<S: Surface>(page: &S, rows: &[&str], looks: &[Look]) -> bool {
 
 // Whether a row of two pages is the same.
 fn same_row<L: Surface, R: Surface>(page: &L, other: &R, y: u16) -> bool {
-    (0..page.width()).all(|x| page.read(x, y) == other.read(x, y))
-}
-
-// Whether two pages are of one size and the same in every cell.
-pub fn same<L: Surface, R: Surface>(page: &L, other: &R) -> bool {
-    page.sides() == other.sides() && (0..page.height()).all(|y| same_row(page, other, y))
+    for x in 0..page.width() {
+        if page.read(x, y) != other.read(x, y) {
+            return false;
+        }
+    }
+    true
 }
 
 // Whether two pages are the same in the rows from `from` up to `to`.
 pub fn look_alike<L: Surface, R: Surface>(page: &L, other: &R, from: u16, to: u16) -> bool {
-    (from..to).all(|y| same_row(page, other, y))
+    for y in from..to {
+        if !same_row(page, other, y) {
+            return false;
+        }
+    }
+    true
+}
+
+// Whether two pages are of one size and the same in every cell.
+pub fn same<L: Surface, R: Surface>(page: &L, other: &R) -> bool {
+    page.sides() == other.sides() && look_alike(page, other, 0, page.height())
+}
+
+fn row_stays<S: Surface>(page: &S, y: u16) -> bool {
+    for x in 0..page.width() {
+        if page.read(x, y) != Some(old_cell(x, y)) {
+            return false;
+        }
+    }
+    true
 }
 
 // Whether old content stands in the rows from `from` up to `to`.
 pub fn stay<S: Surface>(page: &S, from: u16, to: u16) -> bool {
-    (from..to).all(|y| (0..page.width()).all(|x| page.read(x, y) == Some(old_cell(x, y))))
+    for y in from..to {
+        if !row_stays(page, y) {
+            return false;
+        }
+    }
+    true
 }

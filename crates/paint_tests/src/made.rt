@@ -1,10 +1,12 @@
 // Sheets for the tests, and the one call that paints them.
 
+pub use drawings::Area;
 use events::event::Event;
 use events::styles::MarkdownStyles;
 use glyphs::{Glyph, Utf8};
-use markdown::{Area, Markdown};
+use markdown::Markdown;
 use page::Surface;
+use paint::render;
 use records::kinds::{Row, Span};
 use std::alloc::{AllocError, Global};
 use style::{Style, Symbol};
@@ -148,7 +150,8 @@ impl Draft {
 
     // A Text of these bytes.
     pub fn say(&mut self, text: &str) -> Result<(), AllocError> {
-        let (place, length) = (self.text.len() as u32, text.len() as u32);
+        let place = u32::try_from(self.text.len()).unwrap_or(u32::MAX);
+        let length = u32::try_from(text.len()).unwrap_or(u32::MAX);
         self.text.extend_from_slice(text.as_bytes())?;
         self.events.push(naming(TEXT, place, length))?;
         Ok(())
@@ -206,8 +209,8 @@ pub fn paint<S: Surface, R: BreakingRule>(
     area: Area,
     page: &mut S,
 ) -> u8 {
-    sheet
-        .render(rule, area, page)
+    let (records, border) = (&sheet.records, sheet.border);
+    render(page, area, rule, records, sheet.streaming, border)
         .err()
         .map_or(0, |refusal| refusal.number())
 }

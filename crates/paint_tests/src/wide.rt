@@ -1,6 +1,6 @@
 // Glyphs of width 2: their second cell, rows that end before them, and columns of width 1.
 
-use super::looks::{age, old_cell, shows};
+use super::looks::{age, old_cell, shows, symbol_at};
 use super::made::{Draft, ITALIC, area, paint_draft};
 use grid::Grid;
 use page::{Cell, Surface};
@@ -65,10 +65,7 @@ fn the_cell_before_a_wide_glyph_that_does_not_fit_stays(rt: HostRuntime) -> Resu
         0
     );
     assert_eq!(rt; page.read(2, 0), Some(old_cell(2, 0)));
-    assert_eq!(rt;
-        page.read(1, 1).map(|cell| cell.symbol),
-        Some(Symbol::EMPTY)
-    );
+    assert_eq!(rt; symbol_at(&page, 1, 1), Some(Symbol::EMPTY));
     assert_eq!(rt; page.read(2, 1), Some(old_cell(2, 1)));
     Ok(())
 }
