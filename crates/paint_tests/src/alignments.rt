@@ -41,7 +41,7 @@ fn rows_of_every_width_stand_left_in_the_middle_and_right_of_six_cells(
         "│ abcde  │  abcde │  abcde │",
         "└────────┴────────┴────────┘",
     ];
-    assert!(rt; shows(rt.alloc(), &page, &rows)?);
+    assert!(rt; shows(&page, &rows));
     Ok(())
 }
 
@@ -73,7 +73,7 @@ fn rows_of_every_width_stand_left_in_the_middle_and_right_of_five_cells(
         "│ abcd  │ abcd  │  abcd │",
         "└───────┴───────┴───────┘",
     ];
-    assert!(rt; shows(rt.alloc(), &page, &rows)?);
+    assert!(rt; shows(&page, &rows));
     Ok(())
 }
 
@@ -101,7 +101,7 @@ fn each_row_of_an_entry_is_aligned_by_itself(rt: HostRuntime) -> Result<(), Fail
         "│     h │   e  │",
         "└───────┴──────┘",
     ];
-    assert!(rt; shows(rt.alloc(), &page, &rows)?);
+    assert!(rt; shows(&page, &rows));
     Ok(())
 }
 
@@ -128,7 +128,7 @@ fn wide_glyphs_count_two_in_a_row_that_is_aligned(rt: HostRuntime) -> Result<(),
         "│   茶a │  茶a │",
         "└───────┴──────┘",
     ];
-    assert!(rt; shows(rt.alloc(), &page, &rows)?);
+    assert!(rt; shows(&page, &rows));
     Ok(())
 }
 
@@ -149,7 +149,7 @@ fn alignment_bits_of_0_mean_left(rt: HostRuntime) -> Result<(), Fail> {
         "│  c │ c  │",
         "└────┴────┘",
     ];
-    assert!(rt; shows(rt.alloc(), &page, &rows)?);
+    assert!(rt; shows(&page, &rows));
     Ok(())
 }
 

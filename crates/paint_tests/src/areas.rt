@@ -81,7 +81,7 @@ fn an_area_of_the_last_cell_gets_the_first_glyph(rt: HostRuntime) -> Result<(), 
         paint_draft(&draft, &WordRule, area(2, 1, 1, 1), &mut page),
         0
     );
-    assert!(rt; shows(rt.alloc(), &page, &["", "  a"])?);
+    assert!(rt; shows(&page, &["", "  a"]));
     Ok(())
 }
 
@@ -95,7 +95,7 @@ fn an_area_may_be_the_whole_page(rt: HostRuntime) -> Result<(), Fail> {
         paint_draft(&draft, &WordRule, area(0, 0, 3, 2), &mut page),
         0
     );
-    assert!(rt; shows(rt.alloc(), &page, &["abc", "de"])?);
+    assert!(rt; shows(&page, &["abc", "de"]));
     Ok(())
 }
 
@@ -109,7 +109,7 @@ fn layout_uses_the_width_of_the_area(rt: HostRuntime) -> Result<(), Fail> {
         paint_draft(&draft, &WordRule, area(2, 0, 5, 3), &mut page),
         0
     );
-    assert!(rt; shows(rt.alloc(), &page, &["  ab cd", "  ef", ""])?);
+    assert!(rt; shows(&page, &["  ab cd", "  ef", ""]));
     Ok(())
 }
 

@@ -43,7 +43,7 @@ fn the_sheet_that_is_cut_has_fifteen_rows(rt: HostRuntime) -> Result<(), Fail> {
         "",
         "end",
     ];
-    assert!(rt; shows(rt.alloc(), &page, &rows)?);
+    assert!(rt; shows(&page, &rows));
     Ok(())
 }
 
@@ -92,7 +92,7 @@ fn of_thirty_two_columns_at_12_three_are_left_without_the_border_behind_them(
         "└───┴───┴───",
         "",
     ];
-    assert!(rt; shows(rt.alloc(), &page, &rows)?);
+    assert!(rt; shows(&page, &rows));
     Ok(())
 }
 
@@ -119,7 +119,7 @@ fn what_lies_beyond_the_area_falls_off_cell_by_cell(rt: HostRuntime) -> Result<(
         let mut page = Grid::new(&mut cells, 12, 3);
         let answer = paint_draft(&draft, &CuttingRule, area(0, 0, width, 3), &mut page);
         assert_eq!(rt; answer, 0);
-        assert!(rt; shows(rt.alloc(), &page, rows)?);
+        assert!(rt; shows(&page, rows));
     }
     Ok(())
 }
@@ -140,6 +140,6 @@ fn naturals_5_9_9_at_12_lose_their_right_border(rt: HostRuntime) -> Result<(), F
         " ├───┼───┼───",
         " │ a │ 1 │ x",
     ];
-    assert!(rt; shows(rt.alloc(), &page, &rows)?);
+    assert!(rt; shows(&page, &rows));
     Ok(())
 }

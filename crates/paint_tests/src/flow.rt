@@ -19,14 +19,14 @@ fn words_stay_together_by_the_word_rule_and_rows_are_full_by_the_cutting_rule(
         paint_draft(&draft, &WordRule, area(0, 0, 5, 4), &mut page),
         0
     );
-    assert!(rt; shows(rt.alloc(), &page, &["a", "ccccc", "c d", ""])?);
+    assert!(rt; shows(&page, &["a", "ccccc", "c d", ""]));
     let mut cells = [Cell::FRESH; 20];
     let mut page = Grid::new(&mut cells, 5, 4);
     assert_eq!(rt;
         paint_draft(&draft, &CuttingRule, area(0, 0, 5, 4), &mut page),
         0
     );
-    assert!(rt; shows(rt.alloc(), &page, &["a ccc", "ccc d", "", ""])?);
+    assert!(rt; shows(&page, &["a ccc", "ccc d", "", ""]));
     Ok(())
 }
 
@@ -42,14 +42,14 @@ fn four_spaces_at_2_push_what_follows_down_by_the_cutting_rule_alone(
         paint_draft(&draft, &WordRule, area(0, 0, 2, 3), &mut page),
         0
     );
-    assert!(rt; shows(rt.alloc(), &page, &["", "x", ""])?);
+    assert!(rt; shows(&page, &["", "x", ""]));
     let mut cells = [Cell::FRESH; 6];
     let mut page = Grid::new(&mut cells, 2, 3);
     assert_eq!(rt;
         paint_draft(&draft, &CuttingRule, area(0, 0, 2, 3), &mut page),
         0
     );
-    assert!(rt; shows(rt.alloc(), &page, &["", "", "x"])?);
+    assert!(rt; shows(&page, &["", "", "x"]));
     Ok(())
 }
 
@@ -63,24 +63,12 @@ fn entries_break_by_the_rule_too(rt: HostRuntime) -> Result<(), Fail> {
         paint_draft(&draft, &WordRule, area(0, 0, 8, 4), &mut page),
         0
     );
-    assert!(rt;
-        shows(
-            rt.alloc(),
-            &page,
-            &["┌──────┐", "│ ab   │", "│ cde  │", "└──────┘"]
-        )?
-    );
+    assert!(rt; shows(&page, &["┌──────┐", "│ ab   │", "│ cde  │", "└──────┘"]));
     assert_eq!(rt;
         paint_draft(&draft, &CuttingRule, area(0, 0, 8, 4), &mut page),
         0
     );
-    assert!(rt;
-        shows(
-            rt.alloc(),
-            &page,
-            &["┌──────┐", "│ ab c │", "│ dee  │", "└──────┘"]
-        )?
-    );
+    assert!(rt; shows(&page, &["┌──────┐", "│ ab c │", "│ dee  │", "└──────┘"]));
     Ok(())
 }
 
@@ -116,7 +104,7 @@ fn one_row_lies_between_two_blocks(rt: HostRuntime) -> Result<(), Fail> {
         "",
         "",
     ];
-    assert!(rt; shows(rt.alloc(), &page, &rows)?);
+    assert!(rt; shows(&page, &rows));
     Ok(())
 }
 
@@ -136,7 +124,7 @@ fn empty_lines_in_a_text_are_rows_and_those_at_its_end_are_not(
         0
     );
     let rows = ["", "a", "", "", "b", "", "┌───┐", "│ c │", "└───┘", ""];
-    assert!(rt; shows(rt.alloc(), &page, &rows)?);
+    assert!(rt; shows(&page, &rows));
     Ok(())
 }
 
@@ -152,7 +140,7 @@ fn a_sign_that_a_load_adds_is_drawn_like_others(rt: HostRuntime) -> Result<(), F
         paint_draft(&draft, &WordRule, area(0, 0, 10, 1), &mut page),
         0
     );
-    assert!(rt; shows(rt.alloc(), &page, &["- a    b"])?);
+    assert!(rt; shows(&page, &["- a    b"]));
     Ok(())
 }
 
@@ -176,6 +164,6 @@ fn missing_entries_are_empty_and_a_table_without_a_head_has_an_empty_one(
         "│   │ b │   │",
         "└───┴───┴───┘",
     ];
-    assert!(rt; shows(rt.alloc(), &page, &rows)?);
+    assert!(rt; shows(&page, &rows));
     Ok(())
 }

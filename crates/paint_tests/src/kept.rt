@@ -49,7 +49,7 @@ fn a_paint_after_a_refused_load_paints_the_old_blocks(rt: HostRuntime) -> Result
     let mut cells = [Cell::FRESH; 24];
     let mut page = Grid::new(&mut cells, 12, 2);
     assert_eq!(rt; paint(&sheet, &WordRule, area(0, 0, 12, 2), &mut page), 0);
-    assert!(rt; shows(rt.alloc(), &page, &["old blocks", ""])?);
+    assert!(rt; shows(&page, &["old blocks", ""]));
     Ok(())
 }
 
@@ -67,7 +67,7 @@ fn a_paint_after_another_load_paints_the_new_blocks(rt: HostRuntime) -> Result<(
     let mut cells = [Cell::FRESH; 24];
     let mut page = Grid::new(&mut cells, 12, 2);
     assert_eq!(rt; paint(&sheet, &WordRule, area(0, 0, 12, 2), &mut page), 0);
-    assert!(rt; shows(rt.alloc(), &page, &["new", ""])?);
+    assert!(rt; shows(&page, &["new", ""]));
     Ok(())
 }
 

@@ -1,7 +1,6 @@
 // What stands on a page, held against what a test expects there.
 
 use page::{Cell, Surface};
-use std::alloc::{AllocError, Global};
 use style::{Style, Symbol};
 
 // Cells as a page has them before a paint: something else in each place and in each part.
@@ -40,37 +39,42 @@ pub fn age<S: Surface>(page: &mut S) {
     }
 }
 
-// The symbols of a row of the page, without the spaces at its end.
-fn row_of<S: Surface>(heap: Global, page: &S, y: u16) -> Result<Vec<u8>, AllocError> {
-    let mut row = Vec::new(heap);
+// What is left of a row's text behind the symbol of a cell, if that comes next; behind the text there
+// are spaces.
+fn behind(text: &[u8], symbol: Symbol) -> Option<&[u8]> {
+    if text.is_empty() && symbol == Symbol::SPACE {
+        return Some(text);
+    }
+    let (first, rest) = text.split_at_checked(usize::from(symbol.len))?;
+    if Symbol::new(first) == Some(symbol) {
+        Some(rest)
+    } else {
+        None
+    }
+}
+
+fn row_shows<S: Surface>(page: &S, y: u16, row: &str) -> bool {
+    let mut text = row.as_bytes();
     for x in 0..page.width() {
-        if let Some(cell) = page.read(x, y) {
-            for b in cell
-                .symbol
-                .to_bytes()
-                .iter()
-                .take(usize::from(cell.symbol.len))
-            {
-                row.push(*b)?;
-            }
+        let symbol = symbol_at(page, x, y).unwrap_or(Symbol::EMPTY);
+        match behind(text, symbol) {
+            Some(rest) => text = rest,
+            None => return false,
         }
     }
-    while row.as_slice().last() == Some(&b' ') {
-        row.pop();
-    }
-    Ok(row)
+    text.is_empty()
 }
 
 // Whether the page shows exactly these rows, spaces at their ends aside.
-pub fn shows<S: Surface>(heap: Global, page: &S, rows: &[&str]) -> Result<bool, AllocError> {
+pub fn shows<S: Surface>(page: &S, rows: &[&str]) -> bool {
     let mut y = 0u16;
     for row in rows {
-        if row_of(heap, page, y)?.as_slice() != row.as_bytes() {
-            return Ok(false);
+        if !row_shows(page, y, row) {
+            return false;
         }
         y = y.saturating_add(1);
     }
-    Ok(y == page.height())
+    y == page.height()
 }
 
 // The symbol of a cell.

@@ -33,7 +33,7 @@ fn header_a_b_and_row_10_7_at_20(rt: HostRuntime) -> Result<(), Fail> {
         "└────┴───┘",
         "",
     ];
-    assert!(rt; shows(rt.alloc(), &page, &rows)?);
+    assert!(rt; shows(&page, &rows));
     let signs = [
         "bbbbbbbbbb          ",
         "b h  b h b          ",
