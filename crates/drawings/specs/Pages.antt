@@ -1,5 +1,5 @@
 -- The page after a paint.
-use Rattle.std.specs.Prelude.{◌≡◌, ℕ, ◌+◌, ◌-◌, ◌≤◌, Bool, true, cond, ◌&&◌, List, [], ◌∷◌, length, Option, Some, None, ◌==◌, nat_le, nat_lt}
+use Rattle.std.specs.Prelude.{◌≡◌, ℕ, ◌+◌, ◌-◌, Bool, cond, ◌&&◌, List, [], ◌∷◌, length, Option, Some, None, ◌==◌, nat_le, nat_lt}
 use Rattle.std.specs.List.{find, AllByRecursion}
 use Rattle.style.specs.Styles.{known_colours}
 use Rattle.style.specs.Symbols.{symbol_of}
