@@ -37,7 +37,7 @@ pub struct Markdown<'a> {
 }
 
 impl<'a> Markdown<'a> {
-    ghost use Rattle.std.specs.Prelude.{◌≡◌, false, length, is_ok};
+    ghost use Rattle.std.specs.Prelude.{◌≡◌, ◌≤◌, false, length, is_ok};
     ghost use Rattle.markdown.specs.Answers.{answered};
     ghost use Rattle.markdown.specs.Sheets.{on_ok, empty_sheet, sheet_of, room_of, count_of, in_use, loaded};
     ghost use Rattle.markdown.specs.Tables.{height_of, table_answered, table_placed};
@@ -82,9 +82,10 @@ impl<'a> Markdown<'a> {
         Ok(())
     }
 
-    // How many rows the sheet takes on a page of this width; none at width 0.
+    // How many rows the sheet takes on a page of this width, at most 59,211; none at width 0.
     pub fn height<R: BreakingRule>(&self, rule: &R, width: u16) -> u16
         ensures value { result ≡ height_of (R.BreakingRule.meaning rule.now) width (sheet_of self.now) }
+        ensures bound { result ≤ 59211 }
     {
         if width == 0 {
             return 0;
