@@ -5,6 +5,9 @@
 //! anything. The main promise: the answer is a function of styles, events, text, source, the ruler's
 //! meaning and the lent lengths alone; on a refusal nothing changes, lent memory included; on success
 //! the blocks read from memory are those of the definition over lists.
+//!
+//! A loaded sheet tells its height on a page, and how a table of it is laid out there, by any breaking
+//! rule. Both are exactly those of the rules over its blocks, and both change nothing.
 
 #![tactic(auto)]
 
@@ -28,6 +31,7 @@ pub use tables::{TableLayout, TableRefusal};
 use wrap::BreakingRule;
 
 // `streaming` tells whether the source is still arriving. It is off at the start, and nothing sets it yet.
+// The blocks of every sheet take at most 59,211 rows, whatever the page and the rule.
 #[derive(Drop)]
 pub struct Markdown<'a> {
     pub records: Records<'a>,
