@@ -15,5 +15,15 @@ mod rows;
 mod sheets;
 mod tables;
 
-pub use sheets::{table_at, total_rows};
-pub use tables::layout_table;
+use records::kinds::Records;
+pub use sheets::table_at;
+
+// A sheet on a page: the sheet's records, the rule that breaks its lines, the page's width, and whether
+// the source of the sheet is still arriving.
+#[derive(Clone, Copy)]
+pub struct Layout<'a, 'm, R> {
+    pub rule: &'a R,
+    pub records: &'a Records<'m>,
+    pub width: u16,
+    pub streaming: bool,
+}

@@ -22,7 +22,7 @@ use events::refusal::Refusal;
 use events::styles::MarkdownStyles;
 use fold::load::Load;
 use glyphs::{Glyph, Ruler};
-use layout::{layout_table, table_at, total_rows};
+use layout::{Layout, table_at};
 use loading::refill;
 pub use loading::{MAX_GLYPHS, MAX_LINES, MAX_ROWS, MAX_TABLES};
 use records::kinds::{Records, Row, Span};
@@ -94,7 +94,13 @@ impl<'a> Markdown<'a> {
         if width == 0 {
             return 0;
         }
-        total_rows(rule, &self.records, width, self.streaming) as u16
+        let page = Layout {
+            rule,
+            records: &self.records,
+            width,
+            streaming: self.streaming,
+        };
+        page.total_rows() as u16
     }
 
     // Fills `layout` with the layout that a table has on a page of this width, 0 allowed. The table goes
@@ -110,14 +116,13 @@ impl<'a> Markdown<'a> {
         ensures after { layout.new ≡ table_placed (R.BreakingRule.meaning rule.now) number width (sheet_of self.now) layout.old }
     {
         let (info, rows) = table_at(&self.records, number).ok_or(TableRefusal::NoTable)?;
-        let (columns, height) = layout_table(
+        let page = Layout {
             rule,
-            &self.records,
-            info,
-            rows,
+            records: &self.records,
             width,
-            self.streaming,
-        );
+            streaming: self.streaming,
+        };
+        let (columns, height) = page.layout_table(info, rows);
         *layout = TableLayout {
             columns,
             rows: height as u16,
