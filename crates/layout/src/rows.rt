@@ -28,14 +28,14 @@ fn rule_count(rows: usize) -> u32
 impl<R: BreakingRule> Layout<'_, '_, R> {
     // The rows of a line or an entry at a width.
     #[tactic(auto, using(crate::proofs::Entries::rows_small))]
-    pub fn line_rows(&self, line: Span, width: u16) -> u16
+    pub(super) fn line_rows(&self, line: Span, width: u16) -> u16
         ensures value { result ≡ rows (R.BreakingRule.meaning self.now.rule.now) (spanned self.now.records.now.glyphs line) width }
     {
         row_count(self.rule, self.records.glyphs_in(line), width) as u16
     }
 
     // The rows of entries side by side: those of the tallest, each at its column's width, and at least one.
-    pub fn row_height(&self, entries: &[Span], widths: &[u16]) -> u16
+    pub(super) fn row_height(&self, entries: &[Span], widths: &[u16]) -> u16
         ensures value { result ≡ row_height (R.BreakingRule.meaning self.now.rule.now) widths.now (map (spanned self.now.records.now.glyphs) entries.now) }
     {
         let mut height: u16 = 1;
@@ -46,7 +46,7 @@ impl<R: BreakingRule> Layout<'_, '_, R> {
     }
 
     // The rows of a text's lines.
-    pub fn text_rows(&self, lines: Span) -> u32
+    pub(super) fn text_rows(&self, lines: Span) -> u32
         ensures value { result ≡ text_rows (R.BreakingRule.meaning self.now.rule.now) self.now.width (map (spanned self.now.records.now.glyphs) (spanned self.now.records.now.lines lines)) }
     {
         let mut rows = 0;
@@ -58,7 +58,7 @@ impl<R: BreakingRule> Layout<'_, '_, R> {
 
     // The rows of a table row of so many columns.
     #[tactic(auto, using(crate::proofs::Entries::entries_taken))]
-    pub fn table_row_height(&self, row: &Row, columns: u8, widths: &[u16]) -> u16
+    pub(super) fn table_row_height(&self, row: &Row, columns: u8, widths: &[u16]) -> u16
         ensures value { result ≡ row_height (R.BreakingRule.meaning self.now.rule.now) widths.now (entries_of self.now.records.now.glyphs columns row.now) }
     {
         self.row_height(entries_of(row, columns), widths)
@@ -66,7 +66,7 @@ impl<R: BreakingRule> Layout<'_, '_, R> {
 
     // The rows of a table, its rules counted, where its columns have these widths.
     #[tactic(auto, using(crate::proofs::Entries::body_step))]
-    pub fn rows_at(&self, rows: &[Row], columns: u8, widths: &[u16]) -> u32
+    pub(super) fn rows_at(&self, rows: &[Row], columns: u8, widths: &[u16]) -> u32
         requires { length rows.now < 2 ^ 16 }
         ensures value { result ≡ rows_at (R.BreakingRule.meaning self.now.rule.now) widths.now (map (entries_of self.now.records.now.glyphs columns) rows.now) }
     {

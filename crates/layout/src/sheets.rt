@@ -18,7 +18,7 @@ fn gaps(blocks: usize) -> u64
 
 impl<R: BreakingRule> Layout<'_, '_, R> {
     // The rows of a block.
-    pub fn block_rows(&self, block: &Block) -> u32
+    fn block_rows(&self, block: &Block) -> u32
         ensures value { result ≡ block_rows (R.BreakingRule.meaning self.now.rule.now) self.now.width self.now.streaming (piece_of self.now.records.now.glyphs self.now.records.now.lines self.now.records.now.rows block.now) }
     {
         match *block {
