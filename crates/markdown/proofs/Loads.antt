@@ -1,4 +1,4 @@
-use Rattle.std.proofs.Common.{◌≡◌, ℕ, ◌<◌, ◌≤◌, min, Bool, true, false, cond, eqb, leb, List, [], ◌∷◌, length, Ok, Err, Result, refl, ap, ◌∙◌, arith}
+use Rattle.std.proofs.Common.{◌≡◌, ℕ, ◌<◌, ◌≤◌, min, Bool, true, false, cond, eqb, leb, List, [], ◌∷◌, length, Ok, Err, Result, refl, sym, subst, ap, ◌∙◌, arith}
 use Rattle.std.proofs.lemmas.Bool.{leb-true}
 use Rattle.std.proofs.lemmas.Bool.Decides.{nat_tests}
 use Rattle.glyphs.specs.declared.Glyph.{Glyph}
@@ -15,6 +15,9 @@ use Rattle.records.specs.declared.kinds.Row.{Row}
 use Rattle.records.specs.declared.kinds.Used.{Used}
 use Rattle.records.specs.Memory.{Memory}
 use Rattle.blocks.specs.Needs.{Needs}
+use Rattle.blocks.specs.Pieces.{Piece}
+use Rattle.layouts.specs.Layouts.{Low}
+use Rattle.heights.proofs.Rows.{loads_are_low}
 use Rattle.blocks.proofs.Counts.{same_needs}
 use Rattle.blocks.specs.Reads.{blocks_of}
 use Rattle.blocks.specs.Stands.{Within}
@@ -22,7 +25,7 @@ use Rattle.parse.specs.Sketches.{parsed, needed}
 use Rattle.parse.specs.Stands.{filled}
 use Rattle.parse.proofs.Programs.{fold_shows, fold_counts}
 use Rattle.markdown.specs.Answers.{limited_by, limited, answered}
-use Rattle.markdown.specs.Sheets.{count_of, in_use, refilled}
+use Rattle.markdown.specs.Sheets.{on_ok, count_of, in_use, refilled}
 
 pub then_next : (p q : Result (Unit {0}) Refusal) → p ≡ Ok tt → q ≡ and_then p q
 then_next (Ok u) q e = refl
@@ -31,6 +34,10 @@ then_next (Err x) q e = absurd (cc)
 then_ok : (p q : Result (Unit {0}) Refusal) → and_then p q ≡ Ok tt → q ≡ Ok tt
 then_ok (Ok u) q e = e
 then_ok (Err x) q e = absurd (cc)
+
+then_ok_first : (p q : Result (Unit {0}) Refusal) → and_then p q ≡ Ok tt → p ≡ Ok tt
+then_ok_first (Ok tt) q e = refl
+then_ok_first (Err x) q e = absurd (cc)
 
 cond_ok : (b : Bool) (p : Result (Unit {0}) Refusal) (x : Refusal) → cond b p (Err x) ≡ Ok tt → (b ≡ true) × (p ≡ Ok tt)
 cond_ok true p x e = (refl, e)
@@ -115,3 +122,8 @@ load_room r y t (b ∷ o) es gs ls rs m e =
     let f = filled r y t (b ∷ o) es gs ls rs in
     ap (λ (q : Memory). P (length q.glyphs) (length q.lines) (length q.rows)) e
     ∙ (ap (λ x. P x (length f.lines) (length f.rows)) k.glyphs_room ∙ (ap (λ x. P (length gs) x (length f.rows)) k.lines_room ∙ ap (λ x. P (length gs) (length ls) x) k.rows_room))
+
+-- what an admitted load leaves is as low as every sheet, and so is what a refused one leaves
+pub load_low : (r : Ruling) (y : MarkdownStyles) (t o : List ℕ) (es : List Event) (g l w : ℕ) (q : Result (Unit {0}) Refusal) (old new : List Piece) → q ≡ answered r y t o es g l w → new ≡ on_ok q (parsed r y t o es) old → Low old → Low new
+load_low r y t o es g l w (Ok tt) old new e f h = subst Low (sym f) (loads_are_low r y t o es g l w (then_ok_first (checked r.admits t es) _ (then_ok (styles_checked 0 (in_order y)) _ (sym e))) (answer_within r y t o es g l w (sym e)))
+load_low r y t o es g l w (Err x) old new e f h = subst Low (sym f) h

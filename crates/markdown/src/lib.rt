@@ -5,120 +5,47 @@
 //! anything. The main promise: the answer is a function of styles, events, text, source, the ruler's
 //! meaning and the lent lengths alone; on a refusal nothing changes, lent memory included; on success
 //! the blocks read from memory are those of the definition over lists.
+//!
+//! A loaded sheet tells its height on a page, and how a table of it is laid out there, by any breaking
+//! rule. Both are exactly those of the rules over its blocks, and both change nothing.
 
 #![tactic(auto)]
 
-ghost use Rattle.std.specs.Prelude.{◌≡◌, false, [], length, is_ok};
 ghost use Rattle.blocks.specs.Reads.{blocks_of};
-ghost use Rattle.parse.specs.Sketches.{parsed};
-ghost use Rattle.parse.specs.Stands.{filled};
-ghost use Rattle.markdown.specs.Answers.{within, limited_by, answered};
-ghost use Rattle.markdown.specs.Sheets.{on_ok, empty_sheet, sheet_of, room_in, room_of, count_of, in_use, loaded, refilled};
+ghost use Rattle.layouts.specs.Layouts.{Low};
 
-use checks::check;
+mod loading;
+mod tables;
+
 use events::event::Event;
-use events::refusal::{Amount, Refusal};
-use events::styles::{MarkdownStyles, check_styles};
+use events::refusal::Refusal;
+use events::styles::MarkdownStyles;
 use fold::load::Load;
 use glyphs::{Glyph, Ruler};
-use records::kinds::{Records, Row, Span, Used};
+use layout::{Layout, table_at};
+use loading::refill;
+pub use loading::{MAX_GLYPHS, MAX_LINES, MAX_ROWS, MAX_TABLES};
+use records::kinds::{Records, Row, Span};
 use style::Style;
-
-pub const MAX_GLYPHS: usize = 50_000;
-
-pub const MAX_LINES: usize = 4_096;
-
-pub const MAX_ROWS: usize = 4_096;
-
-pub const MAX_TABLES: u16 = 255;
+pub use tables::{TableLayout, TableRefusal};
+use wrap::BreakingRule;
 
 // `streaming` tells whether the source is still arriving. It is off at the start, and nothing sets it yet.
+// The blocks of every sheet take at most 59,211 rows, whatever the page and the rule.
 #[derive(Drop)]
 pub struct Markdown<'a> {
     pub records: Records<'a>,
     pub border: Style,
     pub streaming: bool,
-}
-
-// For how many records the lent memory has places.
-#[derive(Clone, Copy)]
-struct Room {
-    glyphs: usize,
-    lines: usize,
-    rows: usize,
-}
-
-// The records that a load uses, written into memory without a place.
-fn count<R: Ruler>(load: &Load<'_, R>) -> Used
-    ensures value { result ≡ (filled (R.Ruler.meaning load.now.ruler.now) load.now.styles.now load.now.text.now load.now.source.now load.now.events.now [] [] []).used }
-{
-    let mut records = Records::new(&mut [], &mut [], &mut []);
-    load.run(&mut records);
-    records.flush_text();
-    records.used
-}
-
-// Refuses an amount that passes its limit.
-fn within(count: u16, limit: usize, amount: Amount) -> Result<(), Refusal>
-    ensures value { result ≡ within count limit amount }
-{
-    if usize::from(count) > limit {
-        return Err(Refusal::Amount(amount));
-    }
-    Ok(())
-}
-
-// Refuses the first amount that passes its limit.
-fn check_amounts(used: Used, room: Room) -> Result<(), Refusal>
-    ensures value { result ≡ limited_by used.glyphs used.lines used.rows used.tables room.glyphs room.lines room.rows }
-{
-    within(used.glyphs, room.glyphs.min(MAX_GLYPHS), Amount::Glyphs)?;
-    within(used.lines, room.lines.min(MAX_LINES), Amount::Lines)?;
-    within(used.rows, room.rows.min(MAX_ROWS), Amount::Rows)?;
-    within(used.tables, usize::from(MAX_TABLES), Amount::Tables)
-}
-
-// All checks of a load, in their order.
-#[tactic(auto, using(crate::proofs::Loads::dry_limits))]
-fn judge<R: Ruler>(load: &Load<'_, R>, room: Room) -> Result<(), Refusal>
-    ensures value { result ≡ answered (R.Ruler.meaning load.now.ruler.now) load.now.styles.now load.now.text.now load.now.source.now load.now.events.now room.glyphs room.lines room.rows }
-{
-    check_styles(load.styles)?;
-    check(load.ruler, load.events, load.text)?;
-    check_amounts(count(load), room)
-}
-
-// The fold of events that were admitted.
-fn fill<R: Ruler>(records: &mut Records, load: &Load<'_, R>)
-    ensures after { records.new ≡ refilled (R.Ruler.meaning load.now.ruler.now) load.now.styles.now load.now.text.now load.now.source.now load.now.events.now records.old.glyphs records.old.lines records.old.rows }
-{
-    records.clear();
-    if !load.source.is_empty() {
-        load.run(records);
-        records.flush_text();
-    }
-}
-
-// Checks everything, then writes.
-#[tactic(auto, using(crate::proofs::Loads::load_blocks, crate::proofs::Loads::load_uses, crate::proofs::Loads::load_room))]
-fn refill<R: Ruler>(records: &mut Records, load: &Load<'_, R>) -> Result<(), Refusal>
-    ensures answer { result ≡ answered (R.Ruler.meaning load.now.ruler.now) load.now.styles.now load.now.text.now load.now.source.now load.now.events.now (length records.old.glyphs) (length records.old.lines) (length records.old.rows) }
-    ensures blocks { blocks_of records.new ≡ on_ok result (parsed (R.Ruler.meaning load.now.ruler.now) load.now.styles.now load.now.text.now load.now.source.now load.now.events.now) (blocks_of records.old) }
-    ensures used { count_of records.new ≡ on_ok result (in_use (R.Ruler.meaning load.now.ruler.now) load.now.styles.now load.now.text.now load.now.source.now load.now.events.now) (count_of records.old) }
-    ensures same { is_ok result ≡ false → records.new ≡ records.old }
-    ensures room { room_in records.new ≡ room_in records.old }
-{
-    let room = Room {
-        glyphs: records.glyphs.len(),
-        lines: records.lines.len(),
-        rows: records.rows.len(),
-    };
-    judge(load, room)?;
-    fill(records, load);
-    Ok(())
+    ghost low: { Low (blocks_of records) },
 }
 
 impl<'a> Markdown<'a> {
+    ghost use Rattle.std.specs.Prelude.{◌≡◌, ◌≤◌, false, length, is_ok};
+    ghost use Rattle.markdown.specs.Answers.{answered};
+    ghost use Rattle.markdown.specs.Sheets.{on_ok, empty_sheet, sheet_of, room_of, count_of, in_use, loaded};
+    ghost use Rattle.markdown.specs.Tables.{height_of, table_answered, table_placed};
+
     // A sheet without a block over the memory that it is lent, whose lengths are its limits.
     pub fn new(glyphs: &'a mut [Glyph], lines: &'a mut [Span], rows: &'a mut [Row]) -> Markdown<'a>
         ensures made { sheet_of result ≡ empty_sheet }
@@ -156,6 +83,50 @@ impl<'a> Markdown<'a> {
         };
         refill(&mut self.records, &load)?;
         self.border = styles.table_border;
+        Ok(())
+    }
+
+    // How many rows the sheet takes on a page of this width, at most 59,211; none at width 0.
+    pub fn height<R: BreakingRule>(&self, rule: &R, width: u16) -> u16
+        ensures value { result ≡ height_of (R.BreakingRule.meaning rule.now) width (sheet_of self.now) }
+        ensures bound { result ≤ 59211 }
+    {
+        if width == 0 {
+            return 0;
+        }
+        let page = Layout {
+            rule,
+            records: &self.records,
+            width,
+            streaming: self.streaming,
+        };
+        page.total_rows() as u16
+    }
+
+    // Fills `layout` with the layout that a table has on a page of this width, 0 allowed. The table goes
+    // by its number among the sheet's tables, from 0; where there is none, `layout` stays as it is.
+    pub fn table<R: BreakingRule>(
+        &self,
+        rule: &R,
+        number: usize,
+        width: u16,
+        layout: &mut TableLayout,
+    ) -> Result<(), TableRefusal>
+        ensures answer { result ≡ table_answered number (sheet_of self.now) }
+        ensures after { layout.new ≡ table_placed (R.BreakingRule.meaning rule.now) number width (sheet_of self.now) layout.old }
+    {
+        let (info, rows) = table_at(&self.records, number).ok_or(TableRefusal::NoTable)?;
+        let page = Layout {
+            rule,
+            records: &self.records,
+            width,
+            streaming: self.streaming,
+        };
+        let (columns, height) = page.layout_table(info, rows);
+        *layout = TableLayout {
+            columns,
+            rows: height as u16,
+        };
         Ok(())
     }
 }

@@ -26,6 +26,7 @@ mod tables;
 mod texts;
 
 use drawings::Area;
+use layout::Layout;
 use page::{Sides, Surface};
 use pen::Pen;
 use records::kinds::Records;
@@ -63,7 +64,13 @@ pub fn render<S: Surface, R: BreakingRule>(
     }
     if area.width > 0 && area.height > 0 {
         let mut pen = Pen::new(area);
-        pen.draw_blocks(page, rule, sheet, area.width, streaming, border);
+        let layout = Layout {
+            rule,
+            records: sheet,
+            width: area.width,
+            streaming,
+        };
+        pen.draw_blocks(page, &layout, border);
     }
     Ok(())
 }
