@@ -133,7 +133,7 @@ def packed(numbers):
     """An array's lines, as many numbers on each as fit."""
     lines, line = [], "       "
     for number in numbers:
-        if len(line) + len(f" {number},") > 100:
+        if len(line) + len(f" {number},") > 99:
             lines.append(line)
             line = "       "
         line += f" {number},"
@@ -153,7 +153,8 @@ def main():
         "// each table its columns, their widths in four slots, the cells taken, and its rows by the two rules.",
         f"pub type Stored = [u32; {len(answers[0])}];",
         "",
-        f'pub const SHEET: &str = "{sheet}";',
+        "pub const SHEET: &str =",
+        f'    "{sheet}";',
         "",
         f"pub const STORED: [Stored; {len(answers)}] = [",
         *[line for answer in answers for line in packed(answer)],

@@ -6,3 +6,4 @@ pub mod TablePlaces
 pub mod SheetPlaces
 pub mod Apart
 pub mod Painted
+pub mod Taken

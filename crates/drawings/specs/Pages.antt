@@ -1,11 +1,14 @@
 -- The page after a paint.
-use Rattle.std.specs.Prelude.{◌≡◌, ℕ, ◌+◌, ◌-◌, Bool, cond, ◌&&◌, List, [], ◌∷◌, length, Option, Some, None, ◌==◌, nat_le, nat_lt}
+use Rattle.std.specs.Prelude.{◌≡◌, ℕ, ◌+◌, ◌-◌, ◌≤◌, Bool, true, cond, ◌&&◌, List, [], ◌∷◌, length, Option, Some, None, ◌==◌, nat_le, nat_lt}
 use Rattle.std.specs.List.{find, AllByRecursion}
+use Rattle.style.specs.declared.Style.{Style}
 use Rattle.style.specs.Styles.{known_colours}
 use Rattle.style.specs.Symbols.{symbol_of}
 use Rattle.page.specs.declared.cells.Cell.{Cell}
 use Rattle.page.specs.Cells.{inked}
 use Rattle.page.specs.Surfaces.{Page}
+use Rattle.glyphs.specs.declared.Glyph.{Glyph}
+use Rattle.blocks.specs.Pieces.{Piece, text, table}
 use Rattle.drawings.specs.declared.Area.{Area}
 use Rattle.drawings.specs.Strokes.{Stroke}
 
@@ -33,6 +36,19 @@ Apart (p ∷ ps) = AllByRecursion (Elsewhere p) ps × Apart ps
 -- Whether a page takes a stroke: a symbol of at most 8 bytes, in colours that exist.
 abbrev pub taken : Stroke → Bool
 taken p = nat_le (length p.symbol) 8 && known_colours p.style
+
+-- Whether a glyph can be put: a symbol of at most 8 bytes, in colours that exist.
+abbrev pub GlyphTaken : Glyph → Type 0
+GlyphTaken g = (g.symbol.len ≤ 8) × (known_colours g.style ≡ true)
+
+-- Whether every glyph of a block can be put.
+abbrev pub PieceTaken : Piece → Type 0
+PieceTaken (text ls) = AllByRecursion (λ l. AllByRecursion GlyphTaken l) ls
+PieceTaken (table i rs) = AllByRecursion (λ r. AllByRecursion (λ l. AllByRecursion GlyphTaken l) r) rs
+
+-- Where the glyphs of all blocks can be put, and so can the border's style, a page takes every stroke.
+abbrev pub EachTaken : Style → List Piece → List Stroke → Type 0
+EachTaken t ks ps = known_colours t ≡ true → AllByRecursion PieceTaken ks → AllByRecursion (λ p. taken p ≡ true) ps
 
 -- A cell with a stroke on it; one that no page takes leaves the cell as it is.
 abbrev pub stroked : Stroke → Cell → Cell

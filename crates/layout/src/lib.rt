@@ -15,6 +15,17 @@ mod rows;
 mod sheets;
 mod tables;
 
-pub use rows::{entries_of, row_height};
-pub use sheets::{table_at, total_rows};
-pub use tables::{is_growing, layout_columns, layout_table, widths_of};
+use records::kinds::Records;
+pub use rows::entries_of;
+pub use sheets::table_at;
+pub use tables::{is_growing, layout_columns, widths_of};
+
+// A sheet on a page: the sheet's records, the rule that breaks its lines, the page's width, and whether
+// the source of the sheet is still arriving.
+#[derive(Clone, Copy)]
+pub struct Layout<'a, 'm, R> {
+    pub rule: &'a R,
+    pub records: &'a Records<'m>,
+    pub width: u16,
+    pub streaming: bool,
+}

@@ -1,5 +1,5 @@
 // The natural widths of a table's columns.
-ghost use Rattle.std.specs.Prelude.{◌≡◌, ℕ, ◌*◌, ◌^◌, ◌<◌, ◌≤◌, max, [], ◌∷◌, length, map, replicate, slice_index, take};
+ghost use Rattle.std.specs.Prelude.{◌≡◌, ℕ, ◌*◌, ◌^◌, ◌<◌, ◌≤◌, max, length, map, replicate, slice_index, take};
 ghost use Rattle.records.specs.Memory.{spanned};
 ghost use Rattle.columns.specs.Layout.{shared_out};
 ghost use Rattle.layout_laws.specs.Layouts.{entry_width, wider};
@@ -8,10 +8,8 @@ use columns::{ColumnLayout, MAX_COLUMNS, Widths};
 use glyphs::Glyph;
 use records::kinds::{Records, Span};
 
-// The widest that an entry can be, whatever the records hold: 65,535 glyphs of 255 cells each.
-const MAX_WIDTH: u32 = 65_535 * 255;
-
-// The columns of some rows of a table: the widest entry of each, at least 1, and how many they are.
+// The columns of some rows of a table: the widest entry of each, at least 1, and how many they are. An
+// entry has at most 65,535 glyphs of 255 cells each, whatever the records hold.
 #[derive(Clone, Copy)]
 pub struct Naturals {
     pub cells: [u32; MAX_COLUMNS],

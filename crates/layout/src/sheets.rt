@@ -5,26 +5,9 @@ ghost use Rattle.blocks.specs.Reads.{piece_of, blocks_of};
 ghost use Rattle.layout_laws.specs.Layouts.{block_rows, total_rows, table_at};
 ghost use Rattle.layout.specs.Reads.{table_of};
 
-use super::rows::text_rows;
-use super::tables::layout_table;
+use super::Layout;
 use records::kinds::{Block, Info, Records, Span};
 use wrap::BreakingRule;
-
-// The rows of a block.
-pub fn block_rows<R: BreakingRule>(
-    rule: &R,
-    records: &Records,
-    block: &Block,
-    width: u16,
-    streaming: bool,
-) -> u32
-    ensures value { result ≡ block_rows (R.BreakingRule.meaning rule.now) width streaming (piece_of records.now.glyphs records.now.lines records.now.rows block.now) }
-{
-    match *block {
-        Block::Text(lines) => text_rows(rule, records, lines, width),
-        Block::Table(info, rows) => layout_table(rule, records, info, rows, width, streaming).1,
-    }
-}
 
 // The rows between so many blocks.
 fn gaps(blocks: usize) -> u64
@@ -33,32 +16,39 @@ fn gaps(blocks: usize) -> u64
     blocks.saturating_sub(1) as u64
 }
 
-// The rows of some blocks, with one row between them.
-fn rows_of<R: BreakingRule>(
-    rule: &R,
-    records: &Records,
-    blocks: &[Block],
-    width: u16,
-    streaming: bool,
-) -> u64
-    requires { length blocks.now < 2 ^ 16 }
-    ensures value { result ≡ total_rows (R.BreakingRule.meaning rule.now) width streaming (map (piece_of records.now.glyphs records.now.lines records.now.rows) blocks.now) }
-{
-    let mut total = gaps(blocks.len());
-    for block in blocks {
-        total += u64::from(block_rows(rule, records, block, width, streaming));
+impl<R: BreakingRule> Layout<'_, '_, R> {
+    // The rows of a block.
+    fn block_rows(&self, block: &Block) -> u32
+        ensures value { result ≡ block_rows (R.BreakingRule.meaning self.now.rule.now) self.now.width self.now.streaming (piece_of self.now.records.now.glyphs self.now.records.now.lines self.now.records.now.rows block.now) }
+    {
+        match *block {
+            Block::Text(lines) => self.text_rows(lines),
+            Block::Table(info, rows) => self.layout_table(info, rows).1,
+        }
     }
-    total
-}
 
-// The rows of a sheet's blocks; there are none where nothing was loaded.
-pub fn total_rows<R: BreakingRule>(rule: &R, records: &Records, width: u16, streaming: bool) -> u64
-    ensures value { result ≡ total_rows (R.BreakingRule.meaning rule.now) width streaming (blocks_of records.now) }
-{
-    if records.used.blocks == 0 {
-        return 0;
+    // The rows of some blocks, with one row between them.
+    fn rows_of(&self, blocks: &[Block]) -> u64
+        requires { length blocks.now < 2 ^ 16 }
+        ensures value { result ≡ total_rows (R.BreakingRule.meaning self.now.rule.now) self.now.width self.now.streaming (map (piece_of self.now.records.now.glyphs self.now.records.now.lines self.now.records.now.rows) blocks.now) }
+    {
+        let mut total = gaps(blocks.len());
+        for block in blocks {
+            total += u64::from(self.block_rows(block));
+        }
+        total
     }
-    rows_of(rule, records, records.blocks(), width, streaming)
+
+    // The rows of the sheet's blocks; there are none where nothing was loaded.
+    pub fn total_rows(&self) -> u64
+        ensures value { result ≡ total_rows (R.BreakingRule.meaning self.now.rule.now) self.now.width self.now.streaming (blocks_of self.now.records.now) }
+    {
+        let records = self.records;
+        if records.used.blocks == 0 {
+            return 0;
+        }
+        self.rows_of(records.blocks())
+    }
 }
 
 // The table of this number among the tables, counted from 0: what it was told, and its rows.

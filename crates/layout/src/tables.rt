@@ -5,8 +5,9 @@ ghost use Rattle.records.specs.Memory.{spanned};
 ghost use Rattle.blocks.specs.Reads.{entries_of};
 ghost use Rattle.layout_laws.specs.Layouts.{wider, widest_entries, natural_widths, table_rows};
 
+use super::Layout;
 use super::naturals::Naturals;
-use super::rows::{entries_of, rows_at};
+use super::rows::entries_of;
 use columns::ColumnLayout;
 use records::kinds::{Info, Records, Row, Span};
 use wrap::BreakingRule;
@@ -52,26 +53,16 @@ pub fn widths_of(columns: &ColumnLayout) -> &[u16]
     &widths[..usize::from(columns.count).min(widths.len())]
 }
 
-// The columns of a table on a page, and its rows, rules counted.
-pub fn layout_table<R: BreakingRule>(
-    rule: &R,
-    records: &Records,
-    info: Info,
-    rows: Span,
-    width: u16,
-    streaming: bool,
-) -> (ColumnLayout, u32)
-    ensures columns { result.0 ≡ shared_out width (streaming && info.open) (natural_widths (map (entries_of records.now.glyphs info.columns) (spanned records.now.rows rows))) }
-    ensures rows { result.1 ≡ table_rows (R.BreakingRule.meaning rule.now) width (streaming && info.open) (map (entries_of records.now.glyphs info.columns) (spanned records.now.rows rows)) }
-{
-    let rows = records.rows_in(rows);
-    let columns = layout_columns(
-        records,
-        rows,
-        info.columns,
-        width,
-        is_growing(info, streaming),
-    );
-    let height = rows_at(rule, records, rows, info.columns, widths_of(&columns));
-    (columns, height)
+impl<R: BreakingRule> Layout<'_, '_, R> {
+    // The columns of a table, and its rows, rules counted.
+    pub fn layout_table(&self, info: Info, rows: Span) -> (ColumnLayout, u32)
+        ensures columns { result.0 ≡ shared_out self.now.width (self.now.streaming && info.open) (natural_widths (map (entries_of self.now.records.now.glyphs info.columns) (spanned self.now.records.now.rows rows))) }
+        ensures rows { result.1 ≡ table_rows (R.BreakingRule.meaning self.now.rule.now) self.now.width (self.now.streaming && info.open) (map (entries_of self.now.records.now.glyphs info.columns) (spanned self.now.records.now.rows rows)) }
+    {
+        let rows = self.records.rows_in(rows);
+        let growing = is_growing(info, self.streaming);
+        let columns = layout_columns(self.records, rows, info.columns, self.width, growing);
+        let height = self.rows_at(rows, info.columns, widths_of(&columns));
+        (columns, height)
+    }
 }

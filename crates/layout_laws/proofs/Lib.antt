@@ -1,3 +1,4 @@
 pub mod Widest
+pub mod Natural
 pub mod Wider
 pub mod Counts

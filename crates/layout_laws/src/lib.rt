@@ -5,3 +5,11 @@
 //! Blocks stand one below another with one row between them.
 
 #![tactic(auto)]
+
+ghost use Rattle.layout_laws.specs.Laws.{ColumnsHoldTheirEntries, ColumnsAreNoWider};
+
+// A natural width is that of the widest entry.
+pub fn layout_laws()
+    ensures held { ColumnsHoldTheirEntries }
+    ensures bound { ColumnsAreNoWider }
+{}

@@ -22,7 +22,15 @@ fn tables_have_from_1_to_32_columns(rt: HostRuntime) -> Result<(), Fail> {
         assert!(rt; layout.columns.count == count);
         assert!(rt; layout.columns.natural[0] == 2);
         assert!(rt; layout.columns.widths[0] == 2);
-        assert!(rt; layout.columns.widths.iter().filter(|width| **width == 1).count() == usize::from(count) - 1);
+        assert!(rt;
+            layout
+                .columns
+                .widths
+                .iter()
+                .filter(|width| **width == 1)
+                .count()
+                == usize::from(count) - 1
+        );
         assert!(rt; layout.columns.taken == 0);
         assert!(rt; layout.rows == 3);
     }

@@ -130,13 +130,7 @@ pub fn events_of(alloc: Global, sheet: &[u8]) -> Result<Vec<Event>, AllocError> 
 // Loads a sheet in the notation.
 pub fn load(alloc: Global, sheet: &mut Markdown, text: &[u8]) -> Result<(), Fail> {
     let events = events_of(alloc, text)?;
-    sheet.load(
-        &Utf8,
-        &MarkdownStyles::new(),
-        events.as_slice(),
-        text,
-        text,
-    )?;
+    sheet.load(&Utf8, &MarkdownStyles::new(), events.as_slice(), text, text)?;
     Ok(())
 }
 

@@ -23,18 +23,30 @@ fn check<R: BreakingRule>(
     stored: &Stored,
 ) {
     assert!(rt; rule_number < 2);
-    let width = stored[0] as u16;
-    assert!(rt; u32::from(sheet.height(rule, width)) == stored[2 + rule_number], "height at {width}");
+    let width = u16::try_from(stored[0]).unwrap_or(u16::MAX);
+    assert!(rt;
+        u32::from(sheet.height(rule, width)) == stored[2 + rule_number],
+        "height at {width}"
+    );
     for number in 0..4usize {
         let numbers = &stored[FIRST + EACH * number..FIRST + EACH * number + EACH];
         let mut layout = TableLayout::new();
         assert!(rt; sheet.table(rule, number, width, &mut layout).is_ok());
-        assert!(rt; u32::from(layout.columns.count) == numbers[0], "columns at {width}");
+        assert!(rt;
+            u32::from(layout.columns.count) == numbers[0],
+            "columns at {width}"
+        );
         for (place, cells) in layout.columns.widths[..4].iter().enumerate() {
-            assert!(rt; u32::from(*cells) == numbers[1 + place], "widths at {width}");
+            assert!(rt;
+                u32::from(*cells) == numbers[1 + place],
+                "widths at {width}"
+            );
         }
         assert!(rt; layout.columns.taken == numbers[5], "taken at {width}");
-        assert!(rt; u32::from(layout.rows) == numbers[6 + rule_number], "rows at {width}");
+        assert!(rt;
+            u32::from(layout.rows) == numbers[6 + rule_number],
+            "rows at {width}"
+        );
     }
 }
 

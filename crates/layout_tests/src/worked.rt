@@ -14,9 +14,7 @@ const SHARES: [(u16, bool, [u16; 3], u32); 5] = [
 ];
 
 #[test]
-fn naturals_5_9_9_are_shared_out_as_the_page_on_columns_tells(
-    rt: HostRuntime,
-) -> Result<(), Fail> {
+fn naturals_5_9_9_are_shared_out_as_the_page_on_columns_tells(rt: HostRuntime) -> Result<(), Fail> {
     for (width, streaming, widths, taken) in SHARES {
         let (answer, layout) = table_of(
             rt.alloc(),
@@ -29,7 +27,10 @@ fn naturals_5_9_9_are_shared_out_as_the_page_on_columns_tells(
         assert!(rt; answer.is_ok());
         assert!(rt; layout.columns.count == 3);
         assert!(rt; layout.columns.natural[..4] == [5, 9, 9, 0]);
-        assert!(rt; &layout.columns.widths[..3] == widths.as_slice(), "at {width}");
+        assert!(rt;
+            &layout.columns.widths[..3] == widths.as_slice(),
+            "at {width}"
+        );
         assert!(rt; layout.columns.taken == taken, "at {width}");
     }
     Ok(())
@@ -46,6 +47,9 @@ fn a_line_has_three_rows_by_the_word_rule_and_two_by_the_cutting_rule(
 
 #[test]
 fn a_header_and_a_row_make_a_table_of_five_rows(rt: HostRuntime) -> Result<(), Fail> {
-    assert_eq!(rt; height_of(rt.alloc(), b"#2\n^a|b\n|10|7\n.", &WordRule, 20)?, 5);
+    assert_eq!(rt;
+        height_of(rt.alloc(), b"#2\n^a|b\n|10|7\n.", &WordRule, 20)?,
+        5
+    );
     Ok(())
 }

@@ -25,7 +25,7 @@ use events::refusal::Refusal;
 use events::styles::MarkdownStyles;
 use fold::load::Load;
 use glyphs::{Glyph, Ruler};
-use layout::{layout_table, table_at, total_rows};
+use layout::{Layout, table_at};
 use loading::refill;
 pub use loading::{MAX_GLYPHS, MAX_LINES, MAX_ROWS, MAX_TABLES};
 use page::Surface;
@@ -46,7 +46,7 @@ pub struct Markdown<'a> {
 }
 
 impl<'a> Markdown<'a> {
-    ghost use Rattle.std.specs.Prelude.{◌≡◌, true, false, length, is_ok};
+    ghost use Rattle.std.specs.Prelude.{◌≡◌, ◌≤◌, true, false, length, is_ok};
     ghost use Rattle.markdown.specs.Answers.{answered};
     ghost use Rattle.markdown.specs.Sheets.{on_ok, empty_sheet, sheet_of, room_of, count_of, in_use, loaded};
     ghost use Rattle.markdown.specs.Tables.{height_of, table_answered, table_placed};
@@ -95,14 +95,21 @@ impl<'a> Markdown<'a> {
         Ok(())
     }
 
-    // How many rows the sheet takes on a page of this width; none at width 0.
+    // How many rows the sheet takes on a page of this width, at most 59,211; none at width 0.
     pub fn height<R: BreakingRule>(&self, rule: &R, width: u16) -> u16
         ensures value { result ≡ height_of (R.BreakingRule.meaning rule.now) width (sheet_of self.now) }
+        ensures bound { result ≤ 59211 }
     {
         if width == 0 {
             return 0;
         }
-        total_rows(rule, &self.records, width, self.streaming) as u16
+        let page = Layout {
+            rule,
+            records: &self.records,
+            width,
+            streaming: self.streaming,
+        };
+        page.total_rows() as u16
     }
 
     // Fills `layout` with the layout that a table has on a page of this width, 0 allowed. The table goes
@@ -118,14 +125,13 @@ impl<'a> Markdown<'a> {
         ensures after { layout.new ≡ table_placed (R.BreakingRule.meaning rule.now) number width (sheet_of self.now) layout.old }
     {
         let (info, rows) = table_at(&self.records, number).ok_or(TableRefusal::NoTable)?;
-        let (columns, height) = layout_table(
+        let page = Layout {
             rule,
-            &self.records,
-            info,
-            rows,
+            records: &self.records,
             width,
-            self.streaming,
-        );
+            streaming: self.streaming,
+        };
+        let (columns, height) = page.layout_table(info, rows);
         *layout = TableLayout {
             columns,
             rows: height as u16,

@@ -11,6 +11,7 @@ use Rattle.glyphs.specs.declared.Glyph.{Glyph}
 use Rattle.wrap_laws.specs.Breaks.{no_glyph, counted}
 use Rattle.drawings.specs.Strokes.{stroke, glyph_strokes, row_strokes}
 use Rattle.drawings.specs.Pages.{taken}
+use Rattle.drawings.proofs.Taken.{length_unpacked}
 
 -- After a glyph that counts n cells the others of its row are left.
 pub row_step : (w x y k n : ℕ) (gs : List Glyph) → k < length gs → n ≡ counted w (get_or gs k no_glyph) → row_strokes w x y (drop k gs) ≡ glyph_strokes w x y (get_or gs k no_glyph) ++ row_strokes w (x + n) y (drop (k + 1) gs)
@@ -22,10 +23,6 @@ take_unpacked : (m n v : ℕ) → m ≤ n → take m (unpacked n v) ≡ unpacked
 take_unpacked zero n v h = refl
 take_unpacked (suc m) zero v h = absurd (omega arith)
 take_unpacked (suc m) (suc n) v h = ap (λ l. v % 256 ∷ l) (take_unpacked m n (v / 256) (omega arith))
-
-length_unpacked : (n v : ℕ) → length (unpacked n v) ≡ n
-length_unpacked zero v = refl
-length_unpacked (suc n) v = ap suc (length_unpacked n (v / 256))
 
 -- The first bytes of a symbol's number are the symbol.
 pub front_bytes : (s : Symbol) (n : ℕ) → n ≡ s.len → n ≤ 8 → slice_range (unpacked 8 s.bytes) 0 n ≡ bytes_of s

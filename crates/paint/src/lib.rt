@@ -13,7 +13,7 @@
 ghost use Rattle.std.specs.Prelude.{◌≡◌, true, false, is_ok};
 ghost use Rattle.blocks.specs.Reads.{blocks_of};
 ghost use Rattle.drawings.specs.Drawings.{drawing};
-ghost use Rattle.drawings.specs.Pages.{on_page, Apart, Paint};
+ghost use Rattle.drawings.specs.Pages.{on_page, Apart, EachTaken, Paint};
 ghost use Rattle.paint.specs.Refusals.{answered};
 
 mod lines;
@@ -26,6 +26,7 @@ mod tables;
 mod texts;
 
 use drawings::Area;
+use layout::Layout;
 use page::{Sides, Surface};
 use pen::Pen;
 use records::kinds::Records;
@@ -56,13 +57,20 @@ pub fn render<S: Surface, R: BreakingRule>(
     ensures after { is_ok result ≡ true → Paint S.Surface.shows S.Surface.held S.Surface.rest S.Surface.lawful area (drawing (R.BreakingRule.meaning rule.now) area.width streaming border (blocks_of sheet.now)) page.old page.new }
     ensures same { is_ok result ≡ false → page.new ≡ page.old }
     ensures apart { Apart (drawing (R.BreakingRule.meaning rule.now) area.width streaming border (blocks_of sheet.now)) }
+    ensures taken { EachTaken border (blocks_of sheet.now) (drawing (R.BreakingRule.meaning rule.now) area.width streaming border (blocks_of sheet.now)) }
 {
     if !lies_on(area, page.sides()) {
         return Err(Refusal::PastEdge);
     }
     if area.width > 0 && area.height > 0 {
         let mut pen = Pen::new(area);
-        pen.draw_blocks(page, rule, sheet, area.width, streaming, border);
+        let layout = Layout {
+            rule,
+            records: sheet,
+            width: area.width,
+            streaming,
+        };
+        pen.draw_blocks(page, &layout, border);
     }
     Ok(())
 }

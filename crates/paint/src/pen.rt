@@ -108,7 +108,8 @@ impl Pen {
         }
     }
 
-    // Draws an entry in the `width` cells from column x on and the `height` rows from row y on.
+    // Draws an entry in the `width` cells from column x on and the `height` rows from row y on. The pen has
+    // its bounds again afterwards, also where drawing stopped at the lower bound.
     pub fn draw_entry<S: Surface, R: BreakingRule>(
         &mut self,
         page: &mut S,
@@ -119,7 +120,7 @@ impl Pen {
         y: u16,
         width: u16,
         height: u16,
-    ) -> Option<u32>
+    )
         requires { rows (R.BreakingRule.meaning rule.now) entry.now width ≤ height }
         ensures after { Drawn S.Surface.shows S.Surface.held S.Surface.rest S.Surface.lawful (frame_of self.old) (line_strokes (R.BreakingRule.meaning rule.now) alignment width x y entry.now) page.old page.new }
         ensures bounds { self.new ≡ self.old }
@@ -127,7 +128,7 @@ impl Pen {
         let saved = self.bounds;
         self.bounds = saved.cut_to(x, y, width, height);
         let narrowed = Narrowed { pen: self, saved };
-        narrowed.pen.draw_line(
+        let _ = narrowed.pen.draw_line(
             page,
             rule,
             entry,
@@ -135,6 +136,6 @@ impl Pen {
             u32::from(x),
             u32::from(y),
             width,
-        )
+        );
     }
 }

@@ -8,8 +8,9 @@ ghost use Rattle.drawings.specs.Frames.{Drawn};
 ghost use Rattle.paint.specs.Pens.{frame_of};
 
 use super::pen::Pen;
+use layout::Layout;
 use page::Surface;
-use records::kinds::{Block, Records};
+use records::kinds::Block;
 use style::Style;
 use wrap::BreakingRule;
 
@@ -18,35 +19,29 @@ impl Pen {
     fn draw_block<S: Surface, R: BreakingRule>(
         &mut self,
         page: &mut S,
-        rule: &R,
-        sheet: &Records,
+        layout: &Layout<R>,
         block: &Block,
-        width: u16,
-        streaming: bool,
         border: Style,
         top: u32,
     ) -> Option<u32>
-        ensures after { Drawn S.Surface.shows S.Surface.held S.Surface.rest S.Surface.lawful (frame_of self.old) (block_strokes (R.BreakingRule.meaning rule.now) width streaming border top (piece_of sheet.now.glyphs sheet.now.lines sheet.now.rows block.now)) page.old page.new }
+        ensures after { Drawn S.Surface.shows S.Surface.held S.Surface.rest S.Surface.lawful (frame_of self.old) (block_strokes (R.BreakingRule.meaning layout.now.rule.now) layout.now.width layout.now.streaming border top (piece_of layout.now.records.now.glyphs layout.now.records.now.lines layout.now.records.now.rows block.now)) page.old page.new }
         ensures bounds { self.new ≡ self.old }
-        ensures below { MatchOption result (self.old.bounds.bottom ≤ top + block_rows (R.BreakingRule.meaning rule.now) width streaming (piece_of sheet.now.glyphs sheet.now.lines sheet.now.rows block.now)) (λ n. n ≡ top + block_rows (R.BreakingRule.meaning rule.now) width streaming (piece_of sheet.now.glyphs sheet.now.lines sheet.now.rows block.now)) }
+        ensures below { MatchOption result (self.old.bounds.bottom ≤ top + block_rows (R.BreakingRule.meaning layout.now.rule.now) layout.now.width layout.now.streaming (piece_of layout.now.records.now.glyphs layout.now.records.now.lines layout.now.records.now.rows block.now)) (λ n. n ≡ top + block_rows (R.BreakingRule.meaning layout.now.rule.now) layout.now.width layout.now.streaming (piece_of layout.now.records.now.glyphs layout.now.records.now.lines layout.now.records.now.rows block.now)) }
     {
         match *block {
             Block::Text(lines) => self.draw_text(
                 page,
-                rule,
-                sheet,
-                sheet.lines_in(lines),
+                layout.rule,
+                layout.records,
+                layout.records.lines_in(lines),
                 top,
-                width,
+                layout.width,
             ),
             Block::Table(info, rows) => self.render_table(
                 page,
-                rule,
-                sheet,
+                layout,
                 info,
-                sheet.rows_in(rows),
-                width,
-                streaming,
+                layout.records.rows_in(rows),
                 border,
                 top,
             ),
@@ -65,19 +60,15 @@ impl Pen {
     pub fn draw_blocks<S: Surface, R: BreakingRule>(
         &mut self,
         page: &mut S,
-        rule: &R,
-        sheet: &Records,
-        width: u16,
-        streaming: bool,
+        layout: &Layout<R>,
         border: Style,
     )
-        ensures after { Drawn S.Surface.shows S.Surface.held S.Surface.rest S.Surface.lawful (frame_of self.old) (drawing (R.BreakingRule.meaning rule.now) width streaming border (blocks_of sheet.now)) page.old page.new }
+        ensures after { Drawn S.Surface.shows S.Surface.held S.Surface.rest S.Surface.lawful (frame_of self.old) (drawing (R.BreakingRule.meaning layout.now.rule.now) layout.now.width layout.now.streaming border (blocks_of layout.now.records.now)) page.old page.new }
         ensures bounds { self.new ≡ self.old }
     {
         let mut y = 0;
-        for block in sheet.blocks() {
-            let Some(below) = self.draw_block(page, rule, sheet, block, width, streaming, border, y)
-            else {
+        for block in layout.records.blocks() {
+            let Some(below) = self.draw_block(page, layout, block, border, y) else {
                 return;
             };
             let Some(next) = self.next_block(below) else {

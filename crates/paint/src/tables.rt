@@ -13,7 +13,7 @@ ghost use Rattle.paint.specs.Pens.{frame_of};
 use super::pen::Pen;
 use super::rules::stride;
 use drawings::Corners;
-use layout::{entries_of, is_growing, layout_columns, row_height, widths_of};
+use layout::{Layout, entries_of, is_growing, layout_columns, widths_of};
 use page::Surface;
 use records::kinds::{Alignment, Info, Records, Row, Span};
 use style::Style;
@@ -105,25 +105,24 @@ impl Pen {
     fn draw_cells<S: Surface, R: BreakingRule>(
         &mut self,
         page: &mut S,
-        rule: &R,
-        sheet: &Records,
+        layout: &Layout<R>,
         entries: &[Span],
         columns: Columns,
         top: u32,
     ) -> Option<u32>
-        ensures after { Drawn S.Surface.shows S.Surface.held S.Surface.rest S.Surface.lawful (frame_of self.old) (table_row (R.BreakingRule.meaning rule.now) columns.entry.border columns.entry.alignments columns.entry.widths.now top (map (spanned sheet.now.glyphs) entries.now)) page.old page.new }
+        ensures after { Drawn S.Surface.shows S.Surface.held S.Surface.rest S.Surface.lawful (frame_of self.old) (table_row (R.BreakingRule.meaning layout.now.rule.now) columns.entry.border columns.entry.alignments columns.entry.widths.now top (map (spanned layout.now.records.now.glyphs) entries.now)) page.old page.new }
         ensures bounds { self.new ≡ self.old }
-        ensures below { MatchOption result (self.old.bounds.bottom ≤ top) (λ n. n ≡ top + row_height (R.BreakingRule.meaning rule.now) columns.entry.widths.now (map (spanned sheet.now.glyphs) entries.now)) }
+        ensures below { MatchOption result (self.old.bounds.bottom ≤ top) (λ n. n ≡ top + row_height (R.BreakingRule.meaning layout.now.rule.now) columns.entry.widths.now (map (spanned layout.now.records.now.glyphs) entries.now)) }
     {
         if top >= u32::from(self.bounds.bottom) {
             return None;
         }
-        let height = row_height(rule, sheet, entries, columns.widths);
+        let height = layout.row_height(entries, columns.widths);
         self.draw_borders(page, columns.widths, top, height, columns.border);
         self.draw_entries(
             page,
-            rule,
-            sheet,
+            layout.rule,
+            layout.records,
             entries,
             columns.widths,
             columns.alignments,
@@ -138,21 +137,20 @@ impl Pen {
     fn draw_body<S: Surface, R: BreakingRule>(
         &mut self,
         page: &mut S,
-        rule: &R,
-        sheet: &Records,
+        layout: &Layout<R>,
         rows: &[Row],
         count: u8,
         columns: Columns,
         top: u32,
     ) -> Option<u32>
-        ensures after { Drawn S.Surface.shows S.Surface.held S.Surface.rest S.Surface.lawful (frame_of self.old) (body (R.BreakingRule.meaning rule.now) columns.entry.border columns.entry.alignments columns.entry.widths.now top (map (entries_of sheet.now.glyphs count) rows.now)) page.old page.new }
+        ensures after { Drawn S.Surface.shows S.Surface.held S.Surface.rest S.Surface.lawful (frame_of self.old) (body (R.BreakingRule.meaning layout.now.rule.now) columns.entry.border columns.entry.alignments columns.entry.widths.now top (map (entries_of layout.now.records.now.glyphs count) rows.now)) page.old page.new }
         ensures bounds { self.new ≡ self.old }
-        ensures below { MatchOption result (self.old.bounds.bottom ≤ top + body_rows (R.BreakingRule.meaning rule.now) columns.entry.widths.now (map (entries_of sheet.now.glyphs count) rows.now)) (λ n. n ≡ top + body_rows (R.BreakingRule.meaning rule.now) columns.entry.widths.now (map (entries_of sheet.now.glyphs count) rows.now)) }
+        ensures below { MatchOption result (self.old.bounds.bottom ≤ top + body_rows (R.BreakingRule.meaning layout.now.rule.now) columns.entry.widths.now (map (entries_of layout.now.records.now.glyphs count) rows.now)) (λ n. n ≡ top + body_rows (R.BreakingRule.meaning layout.now.rule.now) columns.entry.widths.now (map (entries_of layout.now.records.now.glyphs count) rows.now)) }
     {
         let mut y = top;
         for row in rows {
             let entries = entries_of(row, count);
-            y = self.draw_cells(page, rule, sheet, entries, columns, y)?;
+            y = self.draw_cells(page, layout, entries, columns, y)?;
         }
         self.draw_rule(page, columns.widths, y, LOWER, columns.border)
     }
@@ -162,76 +160,71 @@ impl Pen {
     fn draw_below_head<S: Surface, R: BreakingRule>(
         &mut self,
         page: &mut S,
-        rule: &R,
-        sheet: &Records,
+        layout: &Layout<R>,
         rows: &[Row],
         count: u8,
         columns: Columns,
         top: u32,
     ) -> Option<u32>
-        ensures after { Drawn S.Surface.shows S.Surface.held S.Surface.rest S.Surface.lawful (frame_of self.old) (below_head (R.BreakingRule.meaning rule.now) columns.entry.border columns.entry.alignments columns.entry.widths.now top (map (entries_of sheet.now.glyphs count) rows.now)) page.old page.new }
+        ensures after { Drawn S.Surface.shows S.Surface.held S.Surface.rest S.Surface.lawful (frame_of self.old) (below_head (R.BreakingRule.meaning layout.now.rule.now) columns.entry.border columns.entry.alignments columns.entry.widths.now top (map (entries_of layout.now.records.now.glyphs count) rows.now)) page.old page.new }
         ensures bounds { self.new ≡ self.old }
-        ensures below { MatchOption result (self.old.bounds.bottom ≤ top + below_head_rows (R.BreakingRule.meaning rule.now) columns.entry.widths.now (map (entries_of sheet.now.glyphs count) rows.now)) (λ n. n ≡ top + below_head_rows (R.BreakingRule.meaning rule.now) columns.entry.widths.now (map (entries_of sheet.now.glyphs count) rows.now)) }
+        ensures below { MatchOption result (self.old.bounds.bottom ≤ top + below_head_rows (R.BreakingRule.meaning layout.now.rule.now) columns.entry.widths.now (map (entries_of layout.now.records.now.glyphs count) rows.now)) (λ n. n ≡ top + below_head_rows (R.BreakingRule.meaning layout.now.rule.now) columns.entry.widths.now (map (entries_of layout.now.records.now.glyphs count) rows.now)) }
     {
         if rows.is_empty() {
             return self.draw_rule(page, columns.widths, top, LOWER, columns.border);
         }
         let y = self.draw_rule(page, columns.widths, top, INNER, columns.border)?;
-        self.draw_body(page, rule, sheet, rows, count, columns, y)
+        self.draw_body(page, layout, rows, count, columns, y)
     }
 
     // Draws what stands below the upper rule of a table: the header first.
     fn draw_below_rule<S: Surface, R: BreakingRule>(
         &mut self,
         page: &mut S,
-        rule: &R,
-        sheet: &Records,
+        layout: &Layout<R>,
         rows: &[Row],
         count: u8,
         columns: Columns,
         top: u32,
     ) -> Option<u32>
-        ensures after { Drawn S.Surface.shows S.Surface.held S.Surface.rest S.Surface.lawful (frame_of self.old) (below_rule (R.BreakingRule.meaning rule.now) columns.entry.border columns.entry.alignments columns.entry.widths.now top (map (entries_of sheet.now.glyphs count) rows.now)) page.old page.new }
+        ensures after { Drawn S.Surface.shows S.Surface.held S.Surface.rest S.Surface.lawful (frame_of self.old) (below_rule (R.BreakingRule.meaning layout.now.rule.now) columns.entry.border columns.entry.alignments columns.entry.widths.now top (map (entries_of layout.now.records.now.glyphs count) rows.now)) page.old page.new }
         ensures bounds { self.new ≡ self.old }
-        ensures below { MatchOption result (self.old.bounds.bottom ≤ top + below_rule_rows (R.BreakingRule.meaning rule.now) columns.entry.widths.now (map (entries_of sheet.now.glyphs count) rows.now)) (λ n. n ≡ top + below_rule_rows (R.BreakingRule.meaning rule.now) columns.entry.widths.now (map (entries_of sheet.now.glyphs count) rows.now)) }
+        ensures below { MatchOption result (self.old.bounds.bottom ≤ top + below_rule_rows (R.BreakingRule.meaning layout.now.rule.now) columns.entry.widths.now (map (entries_of layout.now.records.now.glyphs count) rows.now)) (λ n. n ≡ top + below_rule_rows (R.BreakingRule.meaning layout.now.rule.now) columns.entry.widths.now (map (entries_of layout.now.records.now.glyphs count) rows.now)) }
     {
         let Some((head, rows)) = rows.split_first() else {
             return self.draw_rule(page, columns.widths, top, LOWER, columns.border);
         };
         let entries = entries_of(head, count);
-        let y = self.draw_cells(page, rule, sheet, entries, columns, top)?;
-        self.draw_below_head(page, rule, sheet, rows, count, columns, y)
+        let y = self.draw_cells(page, layout, entries, columns, top)?;
+        self.draw_below_head(page, layout, rows, count, columns, y)
     }
 
-    // Draws a table on a page of this width, lined in a style, and tells the row below it; none where
+    // Draws a table, lined in a style, and tells the row below it; none where
     // drawing stopped at the lower bound.
     pub fn render_table<S: Surface, R: BreakingRule>(
         &mut self,
         page: &mut S,
-        rule: &R,
-        sheet: &Records,
+        layout: &Layout<R>,
         info: Info,
         rows: &[Row],
-        width: u16,
-        streaming: bool,
         border: Style,
         top: u32,
     ) -> Option<u32>
-        ensures after { Drawn S.Surface.shows S.Surface.held S.Surface.rest S.Surface.lawful (frame_of self.old) (block_strokes (R.BreakingRule.meaning rule.now) width streaming border top (table info (map (entries_of sheet.now.glyphs info.columns) rows.now))) page.old page.new }
+        ensures after { Drawn S.Surface.shows S.Surface.held S.Surface.rest S.Surface.lawful (frame_of self.old) (block_strokes (R.BreakingRule.meaning layout.now.rule.now) layout.now.width layout.now.streaming border top (table info (map (entries_of layout.now.records.now.glyphs info.columns) rows.now))) page.old page.new }
         ensures bounds { self.new ≡ self.old }
-        ensures below { MatchOption result (self.old.bounds.bottom ≤ top + block_rows (R.BreakingRule.meaning rule.now) width streaming (table info (map (entries_of sheet.now.glyphs info.columns) rows.now))) (λ n. n ≡ top + block_rows (R.BreakingRule.meaning rule.now) width streaming (table info (map (entries_of sheet.now.glyphs info.columns) rows.now))) }
+        ensures below { MatchOption result (self.old.bounds.bottom ≤ top + block_rows (R.BreakingRule.meaning layout.now.rule.now) layout.now.width layout.now.streaming (table info (map (entries_of layout.now.records.now.glyphs info.columns) rows.now))) (λ n. n ≡ top + block_rows (R.BreakingRule.meaning layout.now.rule.now) layout.now.width layout.now.streaming (table info (map (entries_of layout.now.records.now.glyphs info.columns) rows.now))) }
     {
         if top >= u32::from(self.bounds.bottom) {
             return None;
         }
-        let growing = is_growing(info, streaming);
-        let layout = layout_columns(sheet, rows, info.columns, width, growing);
+        let growing = is_growing(info, layout.streaming);
+        let laid = layout_columns(layout.records, rows, info.columns, layout.width, growing);
         let columns = Columns {
-            widths: widths_of(&layout),
+            widths: widths_of(&laid),
             alignments: info.alignments,
             border,
         };
         let y = self.draw_rule(page, columns.widths, top, UPPER, border)?;
-        self.draw_below_rule(page, rule, sheet, rows, info.columns, columns, y)
+        self.draw_below_rule(page, layout, rows, info.columns, columns, y)
     }
 }

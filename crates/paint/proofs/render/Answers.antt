@@ -5,6 +5,7 @@ use Rattle.drawings.specs.Pages.{on_page}
 use Rattle.drawings.specs.Frames.{Frame, Drawn}
 use Rattle.drawings.proofs.Apart.{blocks_apart}
 use Rattle.drawings.proofs.Painted.{paint-drawn}
+use Rattle.drawings.proofs.Taken.{blocks_taken}
 use Rattle.paint.proofs.render.Goals as goal
 
 pub returns-then-not-lies_on-clause-apart : goal.returns-then-not-lies_on-clause-apart
@@ -35,3 +36,18 @@ pub returns-else-area-gt0-clause-apart : goal.returns-else-area-gt0-clause-apart
 returns-else-area-gt0-clause-apart g c =
     let a = c.args in
     blocks_apart (g.R.BreakingRule.meaning a.rule.now) a.area.width a.streaming a.border 0 (blocks_of a.sheet.now)
+
+pub returns-then-not-lies_on-clause-taken : goal.returns-then-not-lies_on-clause-taken
+returns-then-not-lies_on-clause-taken g c known sound =
+    let a = c.args in
+    blocks_taken a.border known (g.R.BreakingRule.meaning a.rule.now) a.area.width a.streaming 0 (blocks_of a.sheet.now) sound
+
+pub returns-then-area-gt0-2-clause-taken : goal.returns-then-area-gt0-2-clause-taken
+returns-then-area-gt0-2-clause-taken g c known sound =
+    let a = c.args in
+    blocks_taken a.border known (g.R.BreakingRule.meaning a.rule.now) a.area.width a.streaming 0 (blocks_of a.sheet.now) sound
+
+pub returns-else-area-gt0-clause-taken : goal.returns-else-area-gt0-clause-taken
+returns-else-area-gt0-clause-taken g c known sound =
+    let a = c.args in
+    blocks_taken a.border known (g.R.BreakingRule.meaning a.rule.now) a.area.width a.streaming 0 (blocks_of a.sheet.now) sound

@@ -16,15 +16,15 @@ pub returns-in_err-y-clause-after : goal.returns-in_err-y-clause-after
 returns-in_err-y-clause-after g c =
     let s = g.S.Surface in
     let a = c.args in
-    let b = g.R.BreakingRule.meaning a.rule.now in
+    let b = g.R.BreakingRule.meaning a.layout.now.rule.now in
     let t = a.columns.border in
     let bits = a.columns.alignments in
     let ws = a.columns.widths.now in
-    let rs = map (entries_of a.sheet.now.glyphs a.count) a.rows.now in
+    let rs = map (entries_of a.layout.now.records.now.glyphs a.count) a.rows.now in
     let page = c.draw_rule-2.new.page in
     let whole = below_head b t bits ws a.top rs in
     let none = eqb-false (length a.rows.now) 0 (sym c.if-is_empty.ensures) in
-    let some : 0 < length rs = omega (arith, none, length-map a.rows.now (entries_of a.sheet.now.glyphs a.count)) in
+    let some : 0 < length rs = omega (arith, none, length-map a.rows.now (entries_of a.layout.now.records.now.glyphs a.count)) in
     let more = onward-more s.shows s.held s.rest s.lawful (frame_of a.self.now) whole whole (rule_strokes t inner a.top ws) (body b t bits ws (a.top + 1) rs) a.page.now a.page.now page
     (below_head_step b t bits a.top ws rs some) (onward-start s.shows s.held s.rest s.lawful (frame_of a.self.now) whole a.page.now) c.draw_rule-2.ensures.after in
     onward-unseen s.shows s.held s.rest s.lawful (frame_of a.self.now) whole (body b t bits ws (a.top + 1) rs) a.page.now page more

@@ -17,8 +17,8 @@ pub returns-in_err-y-clause-after : goal.returns-in_err-y-clause-after
 returns-in_err-y-clause-after g c =
     let s = g.S.Surface in
     let a = c.args in
-    let b = g.R.BreakingRule.meaning a.rule.now in
-    let gs = a.sheet.now.glyphs in
+    let b = g.R.BreakingRule.meaning a.layout.now.rule.now in
+    let gs = a.layout.now.records.now.glyphs in
     let t = a.columns.border in
     let bits = a.columns.alignments in
     let ws = a.columns.widths.now in
@@ -38,8 +38,8 @@ pub returns-clause-after : goal.returns-clause-after
 returns-clause-after g c =
     let s = g.S.Surface in
     let a = c.args in
-    let b = g.R.BreakingRule.meaning a.rule.now in
-    let gs = a.sheet.now.glyphs in
+    let b = g.R.BreakingRule.meaning a.layout.now.rule.now in
+    let gs = a.layout.now.records.now.glyphs in
     let t = a.columns.border in
     let bits = a.columns.alignments in
     let ws = a.columns.widths.now in
@@ -58,8 +58,8 @@ returns-clause-after g c =
 pub returns-clause-below : goal.returns-clause-below
 returns-clause-below g c =
     let a = c.args in
-    let b = g.R.BreakingRule.meaning a.rule.now in
-    let gs = a.sheet.now.glyphs in
+    let b = g.R.BreakingRule.meaning a.layout.now.rule.now in
+    let gs = a.layout.now.records.now.glyphs in
     let ws = a.columns.widths.now in
     let r = c.draw_below_head.result in
     let rest = map (entries_of gs a.count) c.in-Some.rows.now in

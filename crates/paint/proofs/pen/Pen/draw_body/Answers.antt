@@ -17,8 +17,8 @@ pub returns-in_err-y-clause-after : goal.returns-in_err-y-clause-after
 returns-in_err-y-clause-after g c =
     let s = g.S.Surface in
     let a = c.args in
-    let b = g.R.BreakingRule.meaning a.rule.now in
-    let gs = a.sheet.now.glyphs in
+    let b = g.R.BreakingRule.meaning a.layout.now.rule.now in
+    let gs = a.layout.now.records.now.glyphs in
     let t = a.columns.border in
     let bits = a.columns.alignments in
     let ws = a.columns.widths.now in
@@ -42,8 +42,8 @@ pub loop-row-preserved : goal.loop-row-preserved
 loop-row-preserved g c =
     let s = g.S.Surface in
     let a = c.args in
-    let b = g.R.BreakingRule.meaning a.rule.now in
-    let gs = a.sheet.now.glyphs in
+    let b = g.R.BreakingRule.meaning a.layout.now.rule.now in
+    let gs = a.layout.now.records.now.glyphs in
     let t = a.columns.border in
     let bits = a.columns.alignments in
     let ws = a.columns.widths.now in

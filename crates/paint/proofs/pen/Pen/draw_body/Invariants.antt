@@ -8,8 +8,8 @@ use Rattle.paint.proofs.pen.Pen.draw_body.Given as goal
 abbrev pub invariant-loop-row : goal.invariant-loop-row
 invariant-loop-row g l =
     let s = g.S.Surface in
-    let b = g.R.BreakingRule.meaning l.rule in
-    let entries = entries_of l.sheet.glyphs l.count in
+    let b = g.R.BreakingRule.meaning l.layout.rule.now in
+    let entries = entries_of l.layout.records.now.glyphs l.count in
     let ws = l.columns.widths.now in
     let rest = body b l.columns.border l.columns.alignments ws in
     record {

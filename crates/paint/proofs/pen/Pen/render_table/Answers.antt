@@ -16,9 +16,9 @@ pub returns-then-top-from-clause-after : goal.returns-then-top-from-clause-after
 returns-then-top-from-clause-after g c =
     let s = g.S.Surface in
     let a = c.args in
-    let b = g.R.BreakingRule.meaning a.rule.now in
-    let rs = map (entries_of a.sheet.now.glyphs a.info.columns) a.rows.now in
-    let ws = final_widths a.width (a.streaming && a.info.open) rs in
+    let b = g.R.BreakingRule.meaning a.layout.now.rule.now in
+    let rs = map (entries_of a.layout.now.records.now.glyphs a.info.columns) a.rows.now in
+    let ws = final_widths a.layout.now.width (a.layout.now.streaming && a.info.open) rs in
     let strokes = table_strokes b a.border a.info.alignments ws a.top rs in
     drawn-unseen s.shows s.held s.rest s.lawful (frame_of a.self.now) strokes a.page.now
     (unseen_below (frame_of a.self.now) 0 (span_of ws) a.top (a.top + rows_at b ws rs) strokes (omega arith) (table_lies b a.border a.info.alignments ws a.top rs))
@@ -27,16 +27,16 @@ pub returns-in_err-y-clause-after : goal.returns-in_err-y-clause-after
 returns-in_err-y-clause-after g c =
     let s = g.S.Surface in
     let a = c.args in
-    let b = g.R.BreakingRule.meaning a.rule.now in
+    let b = g.R.BreakingRule.meaning a.layout.now.rule.now in
     let t = a.border in
     let bits = a.info.alignments in
-    let rs = map (entries_of a.sheet.now.glyphs a.info.columns) a.rows.now in
-    let growing = a.streaming && a.info.open in
-    let ws = final_widths a.width growing rs in
+    let rs = map (entries_of a.layout.now.records.now.glyphs a.info.columns) a.rows.now in
+    let growing = a.layout.now.streaming && a.info.open in
+    let ws = final_widths a.layout.now.width growing rs in
     let page = c.draw_rule.new.page in
     let whole = table_strokes b t bits ws a.top rs in
-    let laid = c.layout_columns-layout.ensures.value ∙ ap (λ v. shared_out a.width v (natural_widths rs)) c.is_growing-growing.ensures.value in
-    let same = c.widths_of.ensures.value ∙ told_widths c.layout_columns-layout.result a.width growing rs laid in
+    let laid = c.layout_columns-laid.ensures.value ∙ ap (λ v. shared_out a.layout.now.width v (natural_widths rs)) c.is_growing-growing.ensures.value in
+    let same = c.widths_of.ensures.value ∙ told_widths c.layout_columns-laid.result a.layout.now.width growing rs laid in
     let P : List ℕ → Type 0 = λ l. Drawn s.shows s.held s.rest s.lawful (frame_of a.self.now) (rule_strokes t upper a.top l) a.page.now page in
     let more = onward-more s.shows s.held s.rest s.lawful (frame_of a.self.now) whole whole (rule_strokes t upper a.top ws) (below_rule b t bits ws (a.top + 1) rs) a.page.now a.page.now page
     refl (onward-start s.shows s.held s.rest s.lawful (frame_of a.self.now) whole a.page.now) (subst P same c.draw_rule.ensures.after) in
@@ -47,16 +47,16 @@ pub returns-clause-after : goal.returns-clause-after
 returns-clause-after g c =
     let s = g.S.Surface in
     let a = c.args in
-    let b = g.R.BreakingRule.meaning a.rule.now in
+    let b = g.R.BreakingRule.meaning a.layout.now.rule.now in
     let t = a.border in
     let bits = a.info.alignments in
-    let rs = map (entries_of a.sheet.now.glyphs a.info.columns) a.rows.now in
-    let growing = a.streaming && a.info.open in
-    let ws = final_widths a.width growing rs in
+    let rs = map (entries_of a.layout.now.records.now.glyphs a.info.columns) a.rows.now in
+    let growing = a.layout.now.streaming && a.info.open in
+    let ws = final_widths a.layout.now.width growing rs in
     let page = c.draw_rule.new.page in
     let whole = table_strokes b t bits ws a.top rs in
-    let laid = c.layout_columns-layout.ensures.value ∙ ap (λ v. shared_out a.width v (natural_widths rs)) c.is_growing-growing.ensures.value in
-    let same = c.widths_of.ensures.value ∙ told_widths c.layout_columns-layout.result a.width growing rs laid in
+    let laid = c.layout_columns-laid.ensures.value ∙ ap (λ v. shared_out a.layout.now.width v (natural_widths rs)) c.is_growing-growing.ensures.value in
+    let same = c.widths_of.ensures.value ∙ told_widths c.layout_columns-laid.result a.layout.now.width growing rs laid in
     let P : List ℕ → Type 0 = λ l. Drawn s.shows s.held s.rest s.lawful (frame_of a.self.now) (rule_strokes t upper a.top l) a.page.now page in
     let Q : List ℕ → Type 0 = λ l. Drawn s.shows s.held s.rest s.lawful (frame_of a.self.now) (below_rule b t bits l c.in_ok-y.y rs) page c.draw_below_rule.new.page in
     let R : ℕ → Type 0 = λ y. Drawn s.shows s.held s.rest s.lawful (frame_of a.self.now) (below_rule b t bits ws y rs) page c.draw_below_rule.new.page in
@@ -67,12 +67,12 @@ returns-clause-after g c =
 pub returns-clause-below : goal.returns-clause-below
 returns-clause-below g c =
     let a = c.args in
-    let b = g.R.BreakingRule.meaning a.rule.now in
-    let rs = map (entries_of a.sheet.now.glyphs a.info.columns) a.rows.now in
-    let growing = a.streaming && a.info.open in
-    let ws = final_widths a.width growing rs in
-    let laid = c.layout_columns-layout.ensures.value ∙ ap (λ v. shared_out a.width v (natural_widths rs)) c.is_growing-growing.ensures.value in
-    let same = c.widths_of.ensures.value ∙ told_widths c.layout_columns-layout.result a.width growing rs laid in
+    let b = g.R.BreakingRule.meaning a.layout.now.rule.now in
+    let rs = map (entries_of a.layout.now.records.now.glyphs a.info.columns) a.rows.now in
+    let growing = a.layout.now.streaming && a.info.open in
+    let ws = final_widths a.layout.now.width growing rs in
+    let laid = c.layout_columns-laid.ensures.value ∙ ap (λ v. shared_out a.layout.now.width v (natural_widths rs)) c.is_growing-growing.ensures.value in
+    let same = c.widths_of.ensures.value ∙ told_widths c.layout_columns-laid.result a.layout.now.width growing rs laid in
     let r = c.draw_below_rule.result in
     let P : List ℕ → Type 0 = λ l. MatchOption r (a.self.now.bounds.bottom ≤ c.in_ok-y.y + below_rule_rows b l rs) (λ n. n ≡ c.in_ok-y.y + below_rule_rows b l rs) in
     let Q : ℕ → Type 0 = λ v. MatchOption r (a.self.now.bounds.bottom ≤ v) (λ n. n ≡ v) in
