@@ -16,6 +16,9 @@ sheets that the tests paint, and the digests of what they find on the page.
 import sys
 from collections import namedtuple
 
+# So that a run leaves nothing beside the generators that it builds on.
+sys.dont_write_bytecode = True
+
 import load_answers
 import wrap_answers
 from load_answers import SOURCE, STYLES, Style, Table, cells, code, leaf, literal, paragraph, text, within

@@ -112,9 +112,9 @@ fn what_lies_beyond_the_area_falls_off_cell_by_cell(rt: HostRuntime) -> Result<(
         ["┌───┬───┐", "│ a │ b │", "└───┴───┘"],
         ["┌───┬───┐", "│ a │ b │", "└───┴───┘"],
     ];
-    let mut width = 0;
+    let mut width = 0u16;
     for rows in &cut {
-        width += 1;
+        width = width.saturating_add(1);
         let mut cells = [Cell::FRESH; 36];
         let mut page = Grid::new(&mut cells, 12, 3);
         let answer = paint_draft(&draft, &CuttingRule, area(0, 0, width, 3), &mut page);
