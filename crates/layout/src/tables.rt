@@ -12,7 +12,7 @@ use columns::ColumnLayout;
 use records::kinds::{Info, Records, Row, Span};
 use wrap::BreakingRule;
 
-// The columns of some rows.
+// The natural widths of the columns of some rows.
 fn naturals_of(records: &Records, rows: &[Row], columns: u8) -> Naturals
     ensures cells { result.cells ≡ wider (replicate 32 1) (widest_entries (map (entries_of records.now.glyphs columns) rows.now)) }
     ensures count { result.count ≡ length (widest_entries (map (entries_of records.now.glyphs columns) rows.now)) }

@@ -8,7 +8,7 @@
 
 ghost use Rattle.layout_laws.specs.Laws.{ColumnsHoldTheirEntries, ColumnsAreNoWider};
 
-// A natural width is that of the widest entry.
+// A natural width is that of the widest entry, and at least 1.
 pub fn layout_laws()
     ensures held { ColumnsHoldTheirEntries }
     ensures bound { ColumnsAreNoWider }

@@ -35,7 +35,7 @@ use style::Style;
 pub use tables::{TableLayout, TableRefusal};
 use wrap::BreakingRule;
 
-// `streaming` tells whether the source is still arriving. It is off at the start, and nothing sets it yet.
+// `streaming` tells whether the source is still arriving. It is off at the start, and no call sets it.
 // The blocks of every sheet take at most 59,211 rows, whatever the page and the rule.
 #[derive(Drop)]
 pub struct Markdown<'a> {

@@ -1,4 +1,4 @@
-// Lines, broken into rows, and texts.
+// Lines, broken into rows.
 
 ghost use Rattle.std.specs.Prelude.{◌≡◌, ◌+◌, ◌<◌, ◌≤◌, MatchOption};
 ghost use Rattle.wrap_laws.specs.Breaks.{columns, rows};

@@ -77,7 +77,8 @@ impl Pen {
         }
     }
 
-    // Where on the page a place of the sheet lies, if it lies within the bounds.
+    // Where on the page a place of the sheet lies, if it lies within the bounds. In an area that lies on the
+    // page no sum is cut off.
     fn place(&self, x: u32, y: u32) -> Option<(u16, u16)>
         ensures value { result ≡ placed (frame_of self.now) x y }
     {
@@ -99,7 +100,8 @@ impl Pen {
         }
     }
 
-    // Puts a symbol at a place, if that lies within the bounds.
+    // Puts a symbol at a place, if that lies within the bounds. A page refuses a symbol or a colour that no
+    // page takes; its cell then stays as it is.
     pub fn put<S: Surface>(&self, page: &mut S, x: u32, y: u32, symbol: &[u8], style: Style)
         ensures after { Drawn S.Surface.shows S.Surface.held S.Surface.rest S.Surface.lawful (frame_of self.now) (stroke x y symbol.now style ∷ []) page.old page.new }
     {

@@ -49,7 +49,7 @@ impl Pen {
     }
 
     // Where the block behind one that ends above this row begins: one row stands between them. None where
-    // that is past the lower bound.
+    // that row is past the lower bound.
     fn next_block(&self, below: u32) -> Option<u32>
         ensures cases { MatchOption result (self.now.bounds.bottom ≤ below) (λ n. n ≡ below + 1) }
     {

@@ -1,4 +1,4 @@
-// The rows of tables.
+// Tables: their rules, borders and entries.
 
 ghost use Rattle.std.specs.Prelude.{◌≡◌, ◌+◌, ◌≤◌, map, MatchOption};
 ghost use Rattle.records.specs.Memory.{spanned};
