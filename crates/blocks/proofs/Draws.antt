@@ -73,7 +73,7 @@ draws_lined f d k =
     let full = full_step f.bare f.full (length f.lines) d.lines d.here k.bare k.full (count_lines f d k) in
     search rules
 
-abbrev stretched : Draft → Draft
+abbrev pub stretched : Draft → Draft
 stretched d = draft (d.pieces ++ (text d.lines ∷ [])) [] d.here d.begun d.info d.rows d.row
 
 abbrev with_blocks : Flat → List Block → Flat

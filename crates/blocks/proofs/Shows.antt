@@ -1,6 +1,7 @@
-use Rattle.std.proofs.Common.{◌≡◌, ℕ, ◌+◌, ◌<◌, ◌≤◌, min, Bool, true, false, cond, ltb, List, [], ◌∷◌, ◌++◌, map, length, drop, set, fold, Option, Some, None, sym, refl, ap, ◌∙◌, arith, rules}
+use Rattle.std.proofs.Common.{◌≡◌, ℕ, ◌+◌, ◌<◌, ◌≤◌, min, Bool, true, false, cond, ltb, List, [], ◌∷◌, ◌++◌, map, length, take, drop, set, fold, Option, Some, None, sym, refl, ap, subst, ◌∙◌, arith, rules}
+use Rattle.std.specs.List.{AllZip}
 use Rattle.std.proofs.lemmas.Bool.Decides.{nat_tests}
-use Rattle.std.proofs.lemmas.List.{append_assoc, length-set, take-append-drop}
+use Rattle.std.proofs.lemmas.List.{append-nil, append_assoc, length-set, take-append-drop}
 use Rattle.glyphs.specs.declared.Glyph.{Glyph}
 use Rattle.records.specs.declared.kinds.Span.{Span}
 use Rattle.records.specs.declared.kinds.Row.{Row}
@@ -8,15 +9,17 @@ use Rattle.records.specs.declared.kinds.Info.{Info}
 use Rattle.records.specs.declared.kinds.Block.{Block}
 use Rattle.records.specs.declared.kinds.Block.TheVariants.{Text, Table}
 use Rattle.records.specs.Acts.{Act, put, end_line, begin_table, end_entry, end_head, end_row, end_table}
-use Rattle.records.specs.Memory.{Memory, act, acted, up, span, blank_row, blank, added, lined, texted, fresh, flushed, begun, ended}
+use Rattle.records.specs.Memory.{Memory, act, acted, up, span, spanned, blank_row, blank, added, lined, texted, fresh, flushed, begun, ended}
 use Rattle.blocks.specs.Pieces.{settled}
 use Rattle.blocks.specs.Drafts.{Draft, draw, drawn, clean, flush, finished}
 use Rattle.blocks.specs.Reads.{piece_of, blocks_of, Fits}
 use Rattle.blocks.specs.Needs.{needs, tally, tallied}
-use Rattle.blocks.specs.Stands.{Within, MemoryShowsDraft}
-use Rattle.blocks.proofs.Flats.{Flat, flat, flined, fflushed, grid}
+use Rattle.blocks.specs.Fronts.{glyphs_put, rows_over, SaysRow}
+use Rattle.blocks.specs.Stands.{Within, MemoryShowsDraft, FrontShowsDraft}
+use Rattle.blocks.proofs.Flats.{Flat, flat, flined, fadded, fended, fflushed, place, grid}
 use Rattle.blocks.proofs.Kept.{Part, Keeps, keeps_put, keeps_lined, keeps_texted, keeps_fresh, keeps_begun, keeps_entry, keeps_head, keeps_row, keeps_table}
 use Rattle.blocks.proofs.Draws.{Draws, draws_put, draws_lined, draws_flush, draws_begin, draws_head, draws_row, draws_table, draws_entry}
+use Rattle.blocks.proofs.Tells.{Tells, only_gone, tells_flush, tells_act}
 use Rattle.blocks.proofs.Counts.{Counts, counts_run, counts_flushed}
 
 up_back : (n k : ℕ) → up n ≤ k → n ≤ k
@@ -111,18 +114,51 @@ read m f d k w =
     ∙ (ap (λ x. map (piece_of (f.glyphs ++ gs) (f.old ++ (f.lines ++ ls)) x) f.blocks) r
     ∙ w.blocks gs (f.lines ++ ls) (f.rows ++ rs))))
 
-shows : (xs : List Act) (m : Memory) (f : Flat) (d : Draft) → Keeps m f → Draws f d → Fits (flushed (acted m xs)) → blocks_of (flushed (acted m xs)) ≡ finished (drawn d xs)
-shows [] m f d k w h = read (flushed m) (fflushed f) (flush d) (keeps_flushed m f k h) (draws_flush f d w)
-shows (a ∷ xs) m f d k w h = shows xs (act m a) (flat f a) (draw d a) (keeps_act m f a k (fits_run xs (act m a) (flushed_back (acted (act m a) xs) h))) (draws_act f d a w) h
+-- the records and the lists after all acts
+ends : (xs : List Act) (m : Memory) (f : Flat) (d : Draft) → Keeps m f → Draws f d → Tells f d → Fits (flushed (acted m xs)) →
+    Keeps (flushed (acted m xs)) (fflushed (fold flat f xs)) × Draws (fflushed (fold flat f xs)) (flush (drawn d xs)) × Tells (fflushed (fold flat f xs)) (flush (drawn d xs))
+ends [] m f d k w t h = (keeps_flushed m f k h, draws_flush f d w, tells_flush f d w t)
+ends (a ∷ xs) m f d k w t h =
+    ends xs (act m a) (flat f a) (draw d a) (keeps_act m f a k (fits_run xs (act m a) (flushed_back (acted (act m a) xs) h))) (draws_act f d a w) (tells_act f d a w t) h
 
 abbrev bare_flat : Flat
 bare_flat = record { glyphs = []; from = 0; bare = true; old = []; lines = []; full = 0; gone = []; rows = []; acc = grid None blank_row 0; blocks = [] }
 
-pub shows_from : (gs : List Glyph) (ls : List Span) (rs : List Row) (xs : List Act) → Fits (flushed (acted (blank gs ls rs) xs)) → blocks_of (flushed (acted (blank gs ls rs) xs)) ≡ finished (drawn clean xs)
-shows_from gs ls rs xs h = shows xs (blank gs ls rs) bare_flat clean
+-- and after all acts on lent memory of which nothing is in use
+ends_from : (gs : List Glyph) (ls : List Span) (rs : List Row) (xs : List Act) → Fits (flushed (acted (blank gs ls rs) xs)) →
+    Keeps (flushed (acted (blank gs ls rs) xs)) (fflushed (fold flat bare_flat xs)) × Draws (fflushed (fold flat bare_flat xs)) (flush (drawn clean xs)) × Tells (fflushed (fold flat bare_flat xs)) (flush (drawn clean xs))
+ends_from gs ls rs xs h = ends xs (blank gs ls rs) bare_flat clean
     (search rules)
     (record { from = omega arith; here = refl; bare = refl; lines = λ x. refl; full = refl; begun = refl; info = λ i e. cc; row = λ x. refl; entries = refl; rows = λ x. refl; blocks = λ x y z. refl })
+    (record { old = λ x. refl; few = omega arith; gone = λ l x. tt })
     h
+
+shows_from : (gs : List Glyph) (ls : List Span) (rs : List Row) (xs : List Act) → Fits (flushed (acted (blank gs ls rs) xs)) → blocks_of (flushed (acted (blank gs ls rs) xs)) ≡ finished (drawn clean xs)
+shows_from gs ls rs xs h =
+    let e = ends_from gs ls rs xs h in
+    read (flushed (acted (blank gs ls rs) xs)) (fflushed (fold flat bare_flat xs)) (flush (drawn clean xs)) e.0 e.1
+
+-- the glyphs of the lists are those that were put
+fflushed_glyphs : (f : Flat) → (fflushed f).glyphs ≡ f.glyphs
+fflushed_glyphs f = by (ltb 0 (flined f).full)
+  where
+    by : (b : Bool) → (cond b (fadded (flined f) (Text (place (length (flined f).old) (flined f).full))) (flined f)).glyphs ≡ f.glyphs
+    by true = refl
+    by false = refl
+
+fended_glyphs : (o : Option Info) (f : Flat) → (fended o f).glyphs ≡ f.glyphs
+fended_glyphs None f = refl
+fended_glyphs (Some i) f = refl
+
+put_glyphs : (xs : List Act) (f : Flat) → (fold flat f xs).glyphs ≡ f.glyphs ++ glyphs_put xs
+put_glyphs [] f = sym (append-nil f.glyphs)
+put_glyphs (put g ∷ xs) f = put_glyphs xs (flat f (put g)) ∙ append_assoc f.glyphs (g ∷ []) (glyphs_put xs)
+put_glyphs (end_line ∷ xs) f = put_glyphs xs (flat f end_line)
+put_glyphs (begin_table i ∷ xs) f = put_glyphs xs (flat f (begin_table i)) ∙ ap (λ gs. gs ++ glyphs_put xs) (fflushed_glyphs f)
+put_glyphs (end_entry ∷ xs) f = put_glyphs xs (flat f end_entry)
+put_glyphs (end_head ∷ xs) f = put_glyphs xs (flat f end_head)
+put_glyphs (end_row ∷ xs) f = put_glyphs xs (flat f end_row)
+put_glyphs (end_table ∷ xs) f = put_glyphs xs (flat f end_table) ∙ ap (λ gs. gs ++ glyphs_put xs) (fended_glyphs f.acc.info f)
 
 min_le : (m n k j : ℕ) → m ≡ min 65535 n → n ≤ min k j → j < 65535 → (m ≤ k) × (m < 65535)
 min_le m n k j e h l = (omega arith, omega arith)
@@ -143,3 +179,37 @@ within_fits gs ls rs xs w =
 
 pub memory_shows : MemoryShowsDraft
 memory_shows gs ls rs xs w = shows_from gs ls rs xs (within_fits gs ls rs xs w)
+
+-- no more rows are in use than the tables have, if every row that is counted is in one
+all_used : (gs : List Glyph) (ls : List Span) (rs : List Row) (xs : List Act) → Within (tallied xs) (length gs) (length ls) (length rs) → (a b : ℕ) →
+    (flushed (acted (blank gs ls rs) xs)).used.rows ≡ a → (tallied xs).rows ≡ b → a ≤ b
+all_used gs ls rs xs w a b e c =
+    let n = fold tally (needs 0 0 0 0) xs in
+    let f = counts_flushed (acted (blank gs ls rs) xs) n (length gs) (length ls) (length rs) 511 (counted gs ls rs xs) in
+    omega (arith, f.rows, e, c)
+
+-- and the records in use alone say it, in their order
+pub front_shows : FrontShowsDraft
+front_shows gs ls rs xs w c =
+    let m = flushed (acted (blank gs ls rs) xs) in
+    let f = fflushed (fold flat bare_flat xs) in
+    let e = ends_from gs ls rs xs (within_fits gs ls rs xs w) in
+    let d = flush (drawn clean xs) in
+    let x = drop m.used.glyphs m.glyphs in
+    let g = rest m.glyphs m.used.glyphs f.glyphs e.0.glyphs in
+    let many : length (f.gone ++ f.rows) ≤ length (rows_over d.pieces) = all_used gs ls rs xs w (length (f.gone ++ f.rows)) (length (rows_over d.pieces)) e.0.rows.many c in
+    record {
+      lines =
+          ap (map (spanned m.glyphs)) (e.0.lines.holds ∙ append-nil f.old)
+          ∙ (ap (λ l. map (spanned l) f.old) g ∙ e.2.old x);
+      rows =
+          subst (λ l. AllZip (SaysRow m.glyphs) l (rows_over d.pieces)) (sym e.0.rows.holds)
+          (subst (λ l. AllZip (SaysRow l) (f.gone ++ f.rows) (rows_over d.pieces)) (sym g) (only_gone f d e.2 many x));
+      glyphs = e.0.glyphs.holds ∙ (fflushed_glyphs (fold flat bare_flat xs) ∙ put_glyphs xs bare_flat);
+      alone = λ x y z.
+          ap (map (piece_of (take m.used.glyphs m.glyphs ++ x) (take m.used.lines m.lines ++ y) (take m.used.rows m.rows ++ z))) e.0.blocks.holds
+          ∙ (ap (λ a. map (piece_of (a ++ x) (take m.used.lines m.lines ++ y) (take m.used.rows m.rows ++ z)) f.blocks) e.0.glyphs.holds
+          ∙ (ap (λ a. map (piece_of (f.glyphs ++ x) a (take m.used.rows m.rows ++ z)) f.blocks) (ap (λ a. a ++ y) e.0.lines.holds ∙ append_assoc f.old f.lines y)
+          ∙ (ap (λ a. map (piece_of (f.glyphs ++ x) (f.old ++ (f.lines ++ y)) a) f.blocks) (ap (λ a. a ++ z) e.0.rows.holds ∙ append_assoc f.gone f.rows z)
+          ∙ e.1.blocks x (f.lines ++ y) (f.rows ++ z))));
+    }

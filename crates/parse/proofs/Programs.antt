@@ -1,4 +1,4 @@
-use Rattle.std.proofs.Common.{◌≡◌, ℕ, Bool, true, false, cond, not, ltb, List, [], ◌∷◌, ◌++◌, map, length, fold, Option, Some, None, sym, refl, ap, ◌∙◌, rules}
+use Rattle.std.proofs.Common.{◌≡◌, ℕ, Bool, true, false, cond, not, ltb, List, [], ◌∷◌, ◌++◌, map, length, fold, Option, Some, None, sym, refl, subst, ap, ◌∙◌, rules}
 use Rattle.std.specs.Option.{is_some}
 use Rattle.std.proofs.lemmas.List.Sums.{fold-append}
 use Rattle.glyphs.specs.declared.Glyph.{Glyph}
@@ -13,11 +13,12 @@ use Rattle.records.specs.declared.kinds.Block.{Block}
 use Rattle.records.specs.declared.kinds.Block.TheVariants.{Text}
 use Rattle.records.specs.Acts.{Act, put, end_line, begin_table, end_entry, end_head, end_row, end_table}
 use Rattle.records.specs.Memory.{Memory, act, acted, span, added, lined, fresh, flushed, ended, blank}
-use Rattle.blocks.specs.Drafts.{Draft, draft, flush, draw, drawn, finished}
+use Rattle.blocks.specs.Drafts.{Draft, draft, flush, draw, drawn, clean, finished}
 use Rattle.blocks.specs.Pieces.{table, resized}
 use Rattle.blocks.specs.Reads.{blocks_of}
-use Rattle.blocks.specs.Needs.{needs, tally}
-use Rattle.blocks.proofs.Shows.{memory_shows, counted}
+use Rattle.blocks.specs.Fronts.{glyphs_put, rows_over, Front}
+use Rattle.blocks.specs.Needs.{needs, tally, tallied}
+use Rattle.blocks.proofs.Shows.{memory_shows, front_shows, counted}
 use Rattle.blocks.proofs.Counts.{counts_flushed}
 use Rattle.fold.specs.declared.mode.Spot.{Spot}
 use Rattle.fold.specs.Tables.{info_of}
@@ -26,7 +27,7 @@ use Rattle.fold.specs.Modes.{moved}
 use Rattle.fold.specs.Inks.{in_force, restyled}
 use Rattle.fold.specs.Steps.{kind_in, spot, spot_of, state_of, stepped}
 use Rattle.parse.specs.Sketches.{Sketch, none, spot_in, doings, sketched, unwritten, programmed}
-use Rattle.parse.specs.Stands.{filled, FoldShows, FoldCounts}
+use Rattle.parse.specs.Stands.{filled, FoldShows, FoldShowsFront, FoldCounts}
 
 -- what the records and the lists say of where the next event acts
 pub record Flags (m : Memory) (d : Draft) : Type 0 where
@@ -96,6 +97,14 @@ pub fold_shows : FoldShows
 fold_shows r y t o es gs ls rs w =
     ap blocks_of (whole r y t o es gs ls rs)
     ∙ (memory_shows gs ls rs (programmed r y t o (unwritten y) es) w ∙ ap finished (draw_program r y t o es (unwritten y)))
+
+pub fold_front : FoldShowsFront
+fold_front r y t o es gs ls rs w c =
+    let P = programmed r y t o (unwritten y) es in
+    let d = draw_program r y t o es (unwritten y) in
+    let f = front_shows gs ls rs P w (subst (λ (d : Draft). (tallied P).rows ≡ length (rows_over (flush d).pieces)) (sym d) c) in
+    subst (λ (d : Draft). Front (filled r y t o es gs ls rs) (glyphs_put P) (flush d).pieces) d
+    (subst (λ (m : Memory). Front m (glyphs_put P) (flush (drawn clean P)).pieces) (sym (whole r y t o es gs ls rs)) f)
 
 pub fold_counts : FoldCounts
 fold_counts r y t o es gs ls rs =
