@@ -1,5 +1,5 @@
 -- Every stroke of a sheet stands above its height.
-use Rattle.std.proofs.Common.{◌≡◌, ℕ, ◌+◌, ◌<◌, Bool, false, eqb, List, [], ◌∷◌, sym, subst, ◌∙◌, arith}
+use Rattle.std.proofs.Common.{◌≡◌, ℕ, ◌+◌, ◌<◌, ◌≤◌, Bool, false, eqb, List, [], ◌∷◌, sym, subst, ◌∙◌, arith}
 use Rattle.std.specs.List.{AllByRecursion}
 use Rattle.std.proofs.lemmas.Bool.{cond-false}
 use Rattle.std.proofs.lemmas.Bool.Decides.{nat_tests}
@@ -12,7 +12,6 @@ use Rattle.drawings.specs.Strokes.{Stroke}
 use Rattle.drawings.specs.Drawings.{block_strokes, blocks_strokes, drawing}
 use Rattle.drawings.proofs.Lists.{Lies, all-append, all-each}
 use Rattle.drawings.proofs.SheetPlaces.{block_span, block_lies}
-use Rattle.drawing_laws.specs.Laws.{StrokesStandInTheHeight}
 
 -- Blocks from row y on stand above the row behind the last one.
 blocks_low : (b : Breaking) (w : ℕ) (streaming : Bool) (t : Style) (y : ℕ) (ps : List Piece) → AllByRecursion (λ (s : Stroke). s.y < y + total_rows b w streaming ps) (blocks_strokes b w streaming t y ps)
@@ -33,7 +32,7 @@ blocks_low b w streaming t y (p ∷ q ∷ ps) =
 none_before : (n : ℕ) → 0 + n ≡ n
 none_before n = omega arith
 
-pub strokes_low : StrokesStandInTheHeight
+pub strokes_low : (b : Breaking) (w : ℕ) (streaming : Bool) (t : Style) (ps : List Piece) → 1 ≤ w → AllByRecursion (λ s. s.y < height b w streaming ps) (drawing b w streaming t ps)
 strokes_low b w streaming t ps h =
     let wide : eqb w 0 ≡ false = grind (arith, nat_tests) in
     let same : 0 + total_rows b w streaming ps ≡ height b w streaming ps = none_before (total_rows b w streaming ps) ∙ sym (cond-false (eqb w 0) 0 (total_rows b w streaming ps) wide) in

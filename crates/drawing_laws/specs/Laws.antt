@@ -1,19 +1,13 @@
 -- What a drawing means, in plain words.
-use Rattle.std.specs.Prelude.{◌≡◌, ℕ, ◌+◌, ◌*◌, ◌<◌, ◌≤◌, Bool, List, [], ◌∷◌, ◌++◌, Some, length, sum, take}
-use Rattle.std.specs.List.{AllByRecursion, slice_get}
+use Rattle.std.specs.Prelude.{◌≡◌, ℕ, ◌+◌, ◌*◌, ◌≤◌, List, [], ◌∷◌, ◌++◌, Some, length, sum, take}
+use Rattle.std.specs.List.{slice_get}
 use Rattle.style.specs.declared.Style.{Style}
 use Rattle.wrap_laws.specs.Breaks.{Breaking}
 use Rattle.records.specs.declared.kinds.Info.{Info}
 use Rattle.records.specs.Alignments.{alignment}
-use Rattle.blocks.specs.Pieces.{Line, Piece}
-use Rattle.layout_laws.specs.Layouts.{height}
+use Rattle.blocks.specs.Pieces.{Line}
 use Rattle.drawings.specs.Strokes.{Stroke, stroke, line_strokes}
 use Rattle.drawings.specs.Tables.{bar, borders_from, entries_from}
-use Rattle.drawings.specs.Drawings.{drawing}
-
--- On a page that is at least one cell wide every stroke of a sheet stands above the sheet's height.
-abbrev pub StrokesStandInTheHeight : Type 0
-StrokesStandInTheHeight = (b : Breaking) (w : ℕ) (streaming : Bool) (t : Style) (ps : List Piece) → 1 ≤ w → AllByRecursion (λ s. s.y < height b w streaming ps) (drawing b w streaming t ps)
 
 -- In each row of a table row border k stands behind the columns before it, each with three cells of its own.
 abbrev pub BordersStandBehindTheirColumns : Type 0
