@@ -73,10 +73,10 @@ fn the_highest_sheet_has_59211_rows(rt: HostRuntime) -> Result<(), Fail> {
         text.as_slice(),
         b"source",
     )?;
-    assert!(rt; sheet.records.used.glyphs == 50_000);
-    assert!(rt; sheet.records.used.lines == 4_096);
-    assert!(rt; sheet.records.used.rows == 4_096);
-    assert!(rt; sheet.records.used.tables == 255);
+    assert!(rt; sheet.records().used.glyphs == 50_000);
+    assert!(rt; sheet.records().used.lines == 4_096);
+    assert!(rt; sheet.records().used.rows == 4_096);
+    assert!(rt; sheet.records().used.tables == 255);
     assert_eq!(rt; sheet.height(&WordRule, 1), 59_211);
     assert_eq!(rt; sheet.height(&CuttingRule, 1), 59_211);
     Ok(())

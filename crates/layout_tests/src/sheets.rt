@@ -164,7 +164,7 @@ pub fn table_of<R: BreakingRule>(
     let mut rows = [Row::BLANK; 16];
     let mut sheet = Markdown::new(&mut glyphs, &mut lines, &mut rows);
     load(alloc, &mut sheet, text)?;
-    sheet.streaming = streaming;
+    sheet.streaming(streaming);
     let mut layout = TableLayout {
         rows: 7,
         ..TableLayout::new()

@@ -58,7 +58,7 @@ fn a_mixed_sheet_is_laid_out_as_stored(rt: HostRuntime) -> Result<(), Fail> {
     let mut sheet = Markdown::new(&mut glyphs, &mut lines, &mut rows);
     load(rt.alloc(), &mut sheet, SHEET.as_bytes())?;
     for stored in &STORED {
-        sheet.streaming = stored[1] == 1;
+        sheet.streaming(stored[1] == 1);
         check(&rt, &sheet, &WordRule, 0, stored);
         check(&rt, &sheet, &CuttingRule, 1, stored);
     }

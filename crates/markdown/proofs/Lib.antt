@@ -1,2 +1,12 @@
 pub mod Loads
+pub mod Fronts
 pub mod Fits
+pub mod Held
+pub mod Given
+pub mod Told
+pub mod Sharing
+pub mod Widenings
+pub mod Paints
+pub mod Runs
+pub mod Lives
+pub mod GoesOn

@@ -25,7 +25,7 @@ use Rattle.parse.specs.Sketches.{parsed, needed}
 use Rattle.parse.specs.Stands.{filled}
 use Rattle.parse.proofs.Programs.{fold_shows, fold_counts}
 use Rattle.markdown.specs.Answers.{limited_by, limited, answered}
-use Rattle.markdown.specs.Sheets.{on_ok, count_of, in_use, refilled}
+use Rattle.markdown.specs.Sheets.{Limits, lent_of, limits_by, limits_in, on_ok, count_of, in_use, refilled}
 
 pub then_next : (p q : Result (Unit {0}) Refusal) → p ≡ Ok tt → q ≡ and_then p q
 then_next (Ok u) q e = refl
@@ -114,14 +114,13 @@ load_uses r y t (b ∷ o) es gs ls rs e =
 
 -- lent memory keeps its length
 pub load_room : (r : Ruling) (y : MarkdownStyles) (t o : List ℕ) (es : List Event) (gs : List Glyph) (ls : List Span) (rs : List Row) (m : Memory) → m ≡ refilled r y t o es gs ls rs →
-    ◌≡◌ {A = ℕ × ℕ × ℕ} (length m.glyphs, length m.lines, length m.rows) (length gs, length ls, length rs)
-load_room r y t [] es gs ls rs m e = ap (λ (k : Memory). let p : ℕ × ℕ × ℕ = (length k.glyphs, length k.lines, length k.rows) in p) e
+    limits_in m ≡ limits_by (lent_of gs ls rs)
+load_room r y t [] es gs ls rs m e = ap limits_in e
 load_room r y t (b ∷ o) es gs ls rs m e =
     let k = fold_counts r y t (b ∷ o) es gs ls rs in
-    let P : ℕ → ℕ → ℕ → ℕ × ℕ × ℕ = λ x y z. (x, y, z) in
     let f = filled r y t (b ∷ o) es gs ls rs in
-    ap (λ (q : Memory). P (length q.glyphs) (length q.lines) (length q.rows)) e
-    ∙ (ap (λ x. P x (length f.lines) (length f.rows)) k.glyphs_room ∙ (ap (λ x. P (length gs) x (length f.rows)) k.lines_room ∙ ap (λ x. P (length gs) (length ls) x) k.rows_room))
+    let P : ℕ → ℕ → ℕ → Limits = λ x y z. record { glyphs = x; lines = y; rows = z } in
+    ap limits_in e ∙ (ap (λ x. P x (length f.lines) (length f.rows)) k.glyphs_room ∙ (ap (λ x. P (length gs) x (length f.rows)) k.lines_room ∙ ap (λ x. P (length gs) (length ls) x) k.rows_room))
 
 -- what an admitted load leaves is as low as every sheet, and so is what a refused one leaves
 pub load_low : (r : Ruling) (y : MarkdownStyles) (t o : List ℕ) (es : List Event) (g l w : ℕ) (q : Result (Unit {0}) Refusal) (old new : List Piece) → q ≡ answered r y t o es g l w → new ≡ on_ok q (parsed r y t o es) old → Low old → Low new

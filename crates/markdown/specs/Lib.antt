@@ -2,3 +2,13 @@ pub mod Answers
 pub mod Sheets
 pub mod Tables
 pub mod Pictures
+pub mod Outcomes
+pub mod Calls
+pub mod Fronts
+pub mod Holds
+pub mod Replies
+pub mod Laws
+pub mod Pasts
+pub mod Views
+pub mod GoesOn
+pub mod Requests

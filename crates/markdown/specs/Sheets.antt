@@ -11,11 +11,9 @@ use Rattle.records.specs.declared.kinds.Span.{Span}
 use Rattle.records.specs.declared.kinds.Row.{Row}
 use Rattle.records.specs.Memory.{Memory, blank}
 use Rattle.blocks.specs.Pieces.{Piece}
-use Rattle.blocks.specs.Reads.{blocks_of}
 use Rattle.blocks.specs.Needs.{Needs, needs}
-use Rattle.parse.specs.Sketches.{none, parsed, needed}
+use Rattle.parse.specs.Sketches.{none, needed}
 use Rattle.parse.specs.Stands.{filled}
-use Rattle.markdown.specs.declared.Markdown.{Markdown}
 
 -- The blocks, the style of table borders, and whether the source is still arriving.
 pub record Sheet : Type 0 where
@@ -26,15 +24,29 @@ pub record Sheet : Type 0 where
 abbrev pub sheet : List Piece → Style → Bool → Sheet
 sheet ps s b = record { blocks = ps; border = s; streaming = b }
 
-abbrev pub sheet_of : Markdown → Sheet
-sheet_of m = sheet (blocks_of m.records) m.border m.streaming
+-- The memory that a sheet is lent.
+pub record Lent : Type 0 where
+  pub glyphs : List Glyph
+  pub lines : List Span
+  pub rows : List Row
 
--- The lengths of the lent memory: glyphs, lines, rows.
-abbrev pub room_in : Memory → ℕ × ℕ × ℕ
-room_in m = (length m.glyphs, length m.lines, length m.rows)
+abbrev pub lent_of : List Glyph → List Span → List Row → Lent
+lent_of gs ls rs = record { glyphs = gs; lines = ls; rows = rs }
 
-abbrev pub room_of : Markdown → ℕ × ℕ × ℕ
-room_of m = room_in m.records
+abbrev pub lent_in : Memory → Lent
+lent_in m = lent_of m.glyphs m.lines m.rows
+
+-- The limits of a sheet: for how many glyphs, lines and table rows its memory has places. A load holds itself to no more than 50,000, 4,096 and 4,096 of them.
+pub record Limits : Type 0 where
+  pub glyphs : ℕ
+  pub lines : ℕ
+  pub rows : ℕ
+
+abbrev pub limits_by : Lent → Limits
+limits_by t = record { glyphs = length t.glyphs; lines = length t.lines; rows = length t.rows }
+
+abbrev pub limits_in : Memory → Limits
+limits_in m = limits_by (lent_in m)
 
 -- What is new after an admitted load, and what stays after a refused one.
 abbrev pub on_ok : {X : Type 0} → Result (Unit {0}) Refusal → X → X → X
@@ -53,9 +65,9 @@ count_of m = needs m.used.glyphs m.used.lines m.used.rows m.used.tables
 abbrev pub in_use : Ruling → MarkdownStyles → List ℕ → List ℕ → List Event → Needs
 in_use r y text source es = cond (none source) (needs 0 0 0 0) (needed r y text source es)
 
--- An admitted load replaces the blocks and the border's style by its own; a refused one changes nothing.
-abbrev pub loaded : Result (Unit {0}) Refusal → Ruling → MarkdownStyles → List ℕ → List ℕ → List Event → Sheet → Sheet
-loaded q r y text source es s = sheet (on_ok q (parsed r y text source es) s.blocks) (on_ok q y.table_border s.border) s.streaming
+-- A switch changes nothing but whether the source is still arriving.
+abbrev pub switched : Bool → Sheet → Sheet
+switched on s = sheet s.blocks s.border on
 
 -- The records after an admitted load: an empty source leaves none in use.
 abbrev pub refilled : Ruling → MarkdownStyles → List ℕ → List ℕ → List Event → List Glyph → List Span → List Row → Memory

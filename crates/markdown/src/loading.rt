@@ -1,10 +1,12 @@
 // A load into records: everything is checked before anything is written.
-ghost use Rattle.std.specs.Prelude.{◌≡◌, false, [], length, is_ok};
+ghost use Rattle.std.specs.Prelude.{◌≡◌, true, false, [], length, is_ok};
 ghost use Rattle.blocks.specs.Reads.{blocks_of};
 ghost use Rattle.parse.specs.Sketches.{parsed};
 ghost use Rattle.parse.specs.Stands.{filled};
 ghost use Rattle.markdown.specs.Answers.{within, limited_by, answered};
-ghost use Rattle.markdown.specs.Sheets.{on_ok, room_in, count_of, in_use, refilled};
+ghost use Rattle.markdown.specs.Sheets.{on_ok, limits_in, refilled};
+ghost use Rattle.markdown.specs.Calls.{load_of};
+ghost use Rattle.markdown.specs.Fronts.{StandsInFront};
 
 use checks::check;
 use events::refusal::{Amount, Refusal};
@@ -81,13 +83,16 @@ fn fill<R: Ruler>(records: &mut Records, load: &Load<'_, R>)
 }
 
 // Checks everything, then writes.
-#[tactic(auto, using(crate::proofs::Loads::load_blocks, crate::proofs::Loads::load_uses, crate::proofs::Loads::load_room))]
+#[tactic(auto, using(crate::proofs::Loads::load_blocks, crate::proofs::Loads::load_room))]
 pub fn refill<R: Ruler>(records: &mut Records, load: &Load<'_, R>) -> Result<(), Refusal>
     ensures answer { result ≡ answered (R.Ruler.meaning load.now.ruler.now) load.now.styles.now load.now.text.now load.now.source.now load.now.events.now (length records.old.glyphs) (length records.old.lines) (length records.old.rows) }
     ensures blocks { blocks_of records.new ≡ on_ok result (parsed (R.Ruler.meaning load.now.ruler.now) load.now.styles.now load.now.text.now load.now.source.now load.now.events.now) (blocks_of records.old) }
-    ensures used { count_of records.new ≡ on_ok result (in_use (R.Ruler.meaning load.now.ruler.now) load.now.styles.now load.now.text.now load.now.source.now load.now.events.now) (count_of records.old) }
+    ensures front { let given = load.now in
+        let l = load_of (R.Ruler.meaning given.ruler.now) given.styles.now given.text.now
+        given.source.now given.events.now in
+        is_ok result ≡ true → StandsInFront l records.new }
     ensures same { is_ok result ≡ false → records.new ≡ records.old }
-    ensures room { room_in records.new ≡ room_in records.old }
+    ensures room { limits_in records.new ≡ limits_in records.old }
 {
     let room = Room {
         glyphs: records.glyphs.len(),

@@ -5,7 +5,7 @@ ghost use Rattle.markdown.specs.Tables.{refusal_text};
 use columns::ColumnLayout;
 use std::fmt;
 
-// How a table is laid out on a page: its columns, and its rows, rules counted.
+/// How a table is laid out on a page: its columns, and its rows, rules counted.
 #[derive(Clone, Copy, Debug, PartialEq, Eq)]
 pub struct TableLayout {
     pub columns: ColumnLayout,
@@ -15,7 +15,7 @@ pub struct TableLayout {
 impl TableLayout {
     ghost use Rattle.markdown.specs.Tables.{no_layout};
 
-    // A layout of no columns, to be filled.
+    /// A layout of no columns, to be filled.
     pub fn new() -> TableLayout
         ensures value { result ≡ no_layout }
     {
@@ -26,17 +26,17 @@ impl TableLayout {
     }
 }
 
-// Why a table question cannot be answered.
+/// Why a table question cannot be answered.
 #[derive(Clone, Copy, Debug, PartialEq, Eq)]
 pub enum TableRefusal {
-    // The sheet has no table of this number.
+    /// The sheet has no table of this number.
     NoTable,
 }
 
 impl TableRefusal {
     ghost use Rattle.markdown.specs.Tables.{number_of};
 
-    // The number of the refusal.
+    /// The number of the refusal.
     pub fn number(self) -> u8
         ensures value { result ≡ number_of self }
     {

@@ -19,16 +19,16 @@ fn shows(glyphs: &[Glyph], text: &[u8]) -> bool {
 
 // The lines of a text block, none if it is no text.
 fn lines<'a>(sheet: &'a Markdown, block: usize) -> &'a [Span] {
-    match sheet.records.blocks().get(block) {
-        Some(Block::Text(span)) => sheet.records.lines_in(*span),
+    match sheet.records().blocks().get(block) {
+        Some(Block::Text(span)) => sheet.records().lines_in(*span),
         _ => &[],
     }
 }
 
 // The rows of a table, none if the block is no table.
 fn rows<'a>(sheet: &'a Markdown, block: usize) -> &'a [Row] {
-    match sheet.records.blocks().get(block) {
-        Some(Block::Table(_, span)) => sheet.records.rows_in(*span),
+    match sheet.records().blocks().get(block) {
+        Some(Block::Table(_, span)) => sheet.records().rows_in(*span),
         _ => &[],
     }
 }
@@ -37,7 +37,7 @@ fn rows<'a>(sheet: &'a Markdown, block: usize) -> &'a [Row] {
 fn has_line(sheet: &Markdown, block: usize, line: usize, text: &[u8]) -> bool {
     lines(sheet, block)
         .get(line)
-        .is_some_and(|place| shows(sheet.records.glyphs_in(*place), text))
+        .is_some_and(|place| shows(sheet.records().glyphs_in(*place), text))
 }
 
 // How many lines a text block has, none if it is no text.
@@ -50,7 +50,7 @@ fn has_entry(sheet: &Markdown, block: usize, row: usize, column: usize, text: &[
     rows(sheet, block)
         .get(row)
         .and_then(|r| r.entries.get(column))
-        .is_some_and(|place| shows(sheet.records.glyphs_in(*place), text))
+        .is_some_and(|place| shows(sheet.records().glyphs_in(*place), text))
 }
 
 #[test]
@@ -69,7 +69,7 @@ fn an_item_has_its_paragraph_behind_the_bullet(rt: HostRuntime) -> Result<(), Fa
         event(LIST_END),
     ];
     sheet.load(&Bytes, &MarkdownStyles::new(), &events, b"ab", b"- ab")?;
-    assert!(rt; sheet.records.blocks().len() == 1);
+    assert!(rt; sheet.records().blocks().len() == 1);
     assert!(rt; line_count(&sheet, 0) == 1);
     assert!(rt; has_line(&sheet, 0, 0, b"- ab"));
     Ok(())
@@ -128,7 +128,7 @@ fn rows_are_padded_and_the_head_comes_first(rt: HostRuntime) -> Result<(), Fail>
         event(TABLE_END),
     ];
     sheet.load(&Bytes, &MarkdownStyles::new(), &events, b"abc", b"source")?;
-    assert!(rt; sheet.records.blocks().len() == 1);
+    assert!(rt; sheet.records().blocks().len() == 1);
     assert!(rt; has_entry(&sheet, 0, 0, 0, b"a"));
     assert!(rt; has_entry(&sheet, 0, 0, 1, b"b"));
     assert!(rt; has_entry(&sheet, 0, 1, 0, b"c"));

@@ -25,13 +25,13 @@ struct Held {
 impl Held {
     fn of(heap: Global, sheet: &Markdown) -> Result<Held, AllocError> {
         Ok(Held {
-            glyphs: sheet.records.glyphs.to_vec(heap)?,
-            lines: sheet.records.lines.to_vec(heap)?,
-            rows: sheet.records.rows.to_vec(heap)?,
-            blocks: sheet.records.blocks().to_vec(heap)?,
-            used: sheet.records.used,
-            border: sheet.border,
-            streaming: sheet.streaming,
+            glyphs: sheet.records().glyphs.to_vec(heap)?,
+            lines: sheet.records().lines.to_vec(heap)?,
+            rows: sheet.records().rows.to_vec(heap)?,
+            blocks: sheet.records().blocks().to_vec(heap)?,
+            used: sheet.records().used,
+            border: sheet.border(),
+            streaming: sheet.is_streaming(),
         })
     }
 
@@ -105,7 +105,7 @@ const MARKED_ROW: Row = Row {
     entries: [MARKED_SPAN; 32],
 };
 
-// A text and a table: three glyphs, two lines, two rows.
+// A text and a table: three glyphs, two lines, one row.
 const GOOD: [Step; 8] = [
     (TEXT, 0, 2),
     (TABLE, 2, 1),
@@ -191,14 +191,14 @@ fn a_refused_load_leaves_a_fresh_sheet_and_a_loaded_one(rt: HostRuntime) -> Resu
     let mut rows = [MARKED_ROW; 2];
     let mut sheet = Markdown::new(&mut glyphs, &mut lines, &mut rows);
     assert!(rt; leaves_all(rt.alloc(), &mut sheet)?);
-    assert!(rt; sheet.records.blocks().is_empty());
+    assert!(rt; sheet.records().blocks().is_empty());
     let events = joined(rt.alloc(), &GOOD, &[])?;
     assert_eq!(rt;
         load(&mut sheet, &MarkdownStyles::new(), events.as_slice()),
         (0, 0)
     );
     assert!(rt; leaves_all(rt.alloc(), &mut sheet)?);
-    assert_eq!(rt; sheet.records.blocks().len(), 2);
+    assert_eq!(rt; sheet.records().blocks().len(), 2);
     Ok(())
 }
 
@@ -225,7 +225,7 @@ fn an_empty_source_leaves_no_blocks_and_takes_the_border(rt: HostRuntime) -> Res
     );
     let answer = sheet.load(&Utf8, &STYLES, events.as_slice(), b"abcdefg\xff", b"");
     assert_eq!(rt; told(answer), (0, 0));
-    assert!(rt; sheet.records.blocks().is_empty());
-    assert_eq!(rt; sheet.border, STYLES.table_border);
+    assert!(rt; sheet.records().blocks().is_empty());
+    assert_eq!(rt; sheet.border(), STYLES.table_border);
     Ok(())
 }

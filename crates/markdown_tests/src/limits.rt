@@ -209,8 +209,8 @@ fn a_sheet_has_a_text_before_each_of_255_tables_and_after_the_last(
     let events = full_sheet(rt.alloc())?;
     let answer = sheet.load(&Bytes, &STYLES, events.as_slice(), b"a", b"source");
     assert_eq!(rt; told(answer), (0, 0));
-    assert_eq!(rt; sheet.records.blocks().len(), 511);
-    for (i, block) in sheet.records.blocks().iter().enumerate() {
+    assert_eq!(rt; sheet.records().blocks().len(), 511);
+    for (i, block) in sheet.records().blocks().iter().enumerate() {
         let is_text = matches!(block, Block::Text(Span { len: 1, .. }));
         let is_table = matches!(block, Block::Table(_, Span { len: 1, .. }));
         assert!(rt; if i % 2 == 0 { is_text } else { is_table });

@@ -36,7 +36,7 @@ impl Digest {
     // A line or an entry.
     fn span(self, sheet: &Markdown, tag: u8, span: Span) -> Digest {
         sheet
-            .records
+            .records()
             .glyphs_in(span)
             .iter()
             .fold(self.bytes(&[tag]), |digest, glyph| digest.glyph(*glyph))
@@ -58,12 +58,12 @@ impl Digest {
 
     fn block(self, sheet: &Markdown, block: Block) -> Digest {
         match block {
-            Block::Text(lines) => sheet.records.lines_in(lines).iter().fold(
+            Block::Text(lines) => sheet.records().lines_in(lines).iter().fold(
                 self.bytes(&[6]),
                 |digest, line| digest.span(sheet, 2, *line),
             ),
             Block::Table(info, rows) => sheet
-                .records
+                .records()
                 .rows_in(rows)
                 .iter()
                 .fold(self.info(info), |digest, row| {
@@ -84,9 +84,9 @@ impl Digest {
         let start = self
             .bytes(&[7, answer.0])
             .number((answer.1 & 0xffff) as u16)
-            .used(sheet.records.used);
+            .used(sheet.records().used);
         sheet
-            .records
+            .records()
             .blocks()
             .iter()
             .fold(start, |digest, block| digest.block(sheet, *block))

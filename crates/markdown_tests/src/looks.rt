@@ -43,8 +43,12 @@ fn are(glyphs: &[Glyph], signs: &[Sign]) -> bool {
 // Where the last line of a block stands, or the first entry of its last row.
 fn last_place(sheet: &Markdown, block: Block) -> Option<Span> {
     match block {
-        Block::Text(lines) => sheet.records.lines_in(lines).last().copied(),
-        Block::Table(_, rows) => sheet.records.rows_in(rows).last().map(|row| row.entries[0]),
+        Block::Text(lines) => sheet.records().lines_in(lines).last().copied(),
+        Block::Table(_, rows) => sheet
+            .records()
+            .rows_in(rows)
+            .last()
+            .map(|row| row.entries[0]),
     }
 }
 
@@ -64,11 +68,11 @@ fn ends<R: Ruler>(
     let events = joined(heap, steps, &[])?;
     let answer = sheet.load(ruler, styles, events.as_slice(), text, b"source");
     let place = sheet
-        .records
+        .records()
         .blocks()
         .last()
         .and_then(|block| last_place(&sheet, *block));
-    Ok(answer.is_ok() && place.is_some_and(|place| are(sheet.records.glyphs_in(place), signs)))
+    Ok(answer.is_ok() && place.is_some_and(|place| are(sheet.records().glyphs_in(place), signs)))
 }
 
 // Steps over the text "abcd", and the glyphs at their end.

@@ -13,7 +13,7 @@ fn is_open(source: &[u8], end: u32) -> Option<bool> {
     let mut sheet = Markdown::new(&mut [], &mut lines, &mut rows);
     let events = [table(1, end), event(TABLE_END)];
     let _ = sheet.load(&Bytes, &MarkdownStyles::new(), &events, b"", source);
-    match sheet.records.blocks() {
+    match sheet.records().blocks() {
         [Block::Table(info, _)] => Some(info.open),
         _ => None,
     }
