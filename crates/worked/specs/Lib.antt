@@ -1,0 +1,2 @@
+pub mod Fixtures
+pub mod TenSheets
