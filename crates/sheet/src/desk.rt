@@ -1,9 +1,10 @@
 // What a script has set up so far, and the commands that work on it.
 use crate::pages::{Act, Page, Part};
+use crate::requests::ask;
 use crate::sheets::{Pending, SheetMemory};
 use crate::stops::*;
-use crate::texts::{RuleName, RulerName};
-use crate::{listing, pages, questions, sheets, texts};
+use crate::texts::{RuleName, RulerName, last_name};
+use crate::{listing, pages, requests, sheets, texts};
 use markdown::Markdown;
 use script::answer_line;
 use std::alloc::Global;
@@ -62,11 +63,12 @@ impl Desk {
             "source" => self.pending.source(rt, words),
             "clear" => self.pending.clear(rt, words),
             "event" => self.pending.event(rt, words),
-            "load" => self.pending.load(rt, self.ruler, sheet, words),
+            "load" => ask(rt, sheet, self.pending.read_load(self.ruler, words)?),
+            "streaming" => ask(rt, sheet, requests::read_streaming(words)?),
             "blocks" => listing::blocks(rt, sheet, words),
             "outline" => listing::outline(rt, sheet, words),
-            "table" => questions::table(rt, self.rule, sheet, words),
-            "height" => questions::height(rt, self.rule, sheet, words),
+            "table" => ask(rt, sheet, requests::read_table(self.rule, words)?),
+            "height" => ask(rt, sheet, requests::read_height(self.rule, words)?),
             "paint" => self.act(rt, "paint", pages::read_paint(sheet, self.rule, words)?),
             _ => self.take_text(rt, raw, name, words),
         }
@@ -150,11 +152,9 @@ fn set<T: FromStr<Err = Fault> + fmt::Display + Copy>(
     rt: &HostRuntime,
     command: &str,
     place: &mut T,
-    mut words: Words,
+    words: Words,
 ) -> Result<(), Stop> {
-    let name = words.next_word().ok_or(Fault::MissingName)?;
-    let value = name.parse::<T>()?;
-    words.end()?;
+    let value = last_name::<T>(words)?;
     *place = value;
     println!(rt; "{command} {value}")?;
     Ok(())

@@ -89,7 +89,7 @@ fn print_table(rt: &HostRuntime, records: &Records, info: Info, rows: &[Row]) ->
 // Every block, glyph by glyph.
 pub fn blocks(rt: &HostRuntime, sheet: &Markdown, words: Words) -> Result<(), Stop> {
     words.end()?;
-    let records = &sheet.records;
+    let records = sheet.records();
     let count = records.blocks().len();
     println!(rt; "blocks {count}")?;
     for block in records.blocks() {
@@ -155,7 +155,7 @@ fn outline_table(
 // Every block as text: the lines of a text, and the rows of a table with bars between the entries.
 pub fn outline(rt: &HostRuntime, sheet: &Markdown, words: Words) -> Result<(), Stop> {
     words.end()?;
-    let records = &sheet.records;
+    let records = sheet.records();
     let count = records.blocks().len();
     println!(rt; "outline {count}")?;
     for block in records.blocks() {

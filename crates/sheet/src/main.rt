@@ -7,7 +7,7 @@
 mod desk;
 mod listing;
 mod pages;
-mod questions;
+mod requests;
 mod sheets;
 mod stops;
 mod texts;

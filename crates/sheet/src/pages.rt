@@ -1,9 +1,10 @@
 // The commands on pages: a grid or a shelf, with a window over it where one is set.
+use crate::requests::{Asked, ask, unanswered};
 use crate::stops::*;
 use crate::texts::{RuleName, last_bytes, push_symbol, symbol_text};
 use drawings::Area;
 use grid::Grid;
-use markdown::Markdown;
+use markdown::{Markdown, Painting, Request};
 use page::{Cell, Refusal, Sides, Surface, Window};
 use shelf::Shelf;
 use std::alloc::Global;
@@ -58,13 +59,13 @@ pub enum Act<'s, 'm> {
     Read(u16, u16),
     Cells,
     Show,
-    Paint(Painting<'s, 'm>),
+    Paint(Paint<'s, 'm>),
 }
 
 // A sheet, the rule by which it breaks, and the area in which it is painted.
-#[derive(Clone, Copy)]
-pub struct Painting<'s, 'm> {
-    sheet: &'s Markdown<'m>,
+#[derive(Drop)]
+pub struct Paint<'s, 'm> {
+    sheet: &'s mut Markdown<'m>,
     rule: RuleName,
     area: Area,
 }
@@ -246,7 +247,7 @@ pub fn read_read<'s, 'm>(mut words: Words) -> Result<Act<'s, 'm>, Fault> {
 }
 
 pub fn read_paint<'s, 'm>(
-    sheet: &'s Markdown<'m>,
+    sheet: &'s mut Markdown<'m>,
     rule: RuleName,
     mut words: Words,
 ) -> Result<Act<'s, 'm>, Fault> {
@@ -257,7 +258,7 @@ pub fn read_paint<'s, 'm>(
         height: side(&mut words)?,
     };
     words.end()?;
-    Ok(Act::Paint(Painting { sheet, rule, area }))
+    Ok(Act::Paint(Paint { sheet, rule, area }))
 }
 
 impl Page {
@@ -317,15 +318,22 @@ fn perform<S: Surface + Drop>(rt: &HostRuntime, mut page: S, act: Act<'_, '_>) -
             }
             Ok(())
         }
-        Act::Paint(painting) => {
-            let Painting { sheet, rule, area } = painting;
-            sheet.render(&rule, area, &mut page)?;
-            println!(rt; "paint ok")?;
-            Ok(())
+        Act::Paint(paint) => {
+            let Paint { sheet, rule, area } = paint;
+            ask(rt, sheet, painting(rule, area, page))
         }
         Act::Cells => print_cells(rt, &page),
         Act::Show => show(rt, &page),
     }
+}
+
+fn painting<'x, S>(rule: RuleName, area: Area, page: S) -> Asked<'x, S> {
+    Request::Paint(Painting {
+        rule,
+        area,
+        page,
+        answer: unanswered(),
+    })
 }
 
 fn print_cell(rt: &HostRuntime, before: &str, x: u16, y: u16, cell: Cell) -> Result<(), Stop> {

@@ -1,11 +1,12 @@
 // The commands on the sheet: its memory, what the next load is given, and the load.
 use crate::pages::byte;
+use crate::requests::{Asked, unanswered};
 use crate::stops::*;
 use crate::texts::{RulerName, last_bytes};
 use events::event::Event;
 use events::styles::MarkdownStyles;
 use glyphs::Glyph;
-use markdown::{MAX_GLYPHS, MAX_LINES, MAX_ROWS, Markdown};
+use markdown::{Loading, MAX_GLYPHS, MAX_LINES, MAX_ROWS, Markdown, Request};
 use records::kinds::{Row, Span};
 use std::alloc::Global;
 use std::fmt;
@@ -209,22 +210,15 @@ impl Pending {
         Ok(())
     }
 
-    pub fn load(
-        &self,
-        rt: &HostRuntime,
-        ruler: RulerName,
-        sheet: &mut Markdown,
-        words: Words,
-    ) -> Result<(), Stop> {
+    pub fn read_load(&self, ruler: RulerName, words: Words) -> Result<Asked<'_>, Fault> {
         words.end()?;
-        sheet.load(
-            &ruler,
-            &self.styles,
-            self.events.as_slice(),
-            self.text.as_slice(),
-            self.source.as_slice(),
-        )?;
-        println!(rt; "load ok")?;
-        Ok(())
+        Ok(Request::Load(Loading {
+            ruler,
+            styles: self.styles,
+            events: self.events.as_slice(),
+            text: self.text.as_slice(),
+            source: self.source.as_slice(),
+            answer: unanswered(),
+        }))
     }
 }

@@ -110,6 +110,14 @@ pub fn last_bytes(heap: Global, mut words: Words) -> Result<Vec<u8>, Fault> {
     Ok(bytes)
 }
 
+// The name that is the last word of a line.
+pub fn last_name<T: FromStr<Err = Fault> + Drop>(mut words: Words) -> Result<T, Fault> {
+    let name = words.next_word().ok_or(Fault::MissingName)?;
+    let value = name.parse::<T>()?;
+    words.end()?;
+    Ok(value)
+}
+
 // A cluster or a glyph as it is told behind others: its bytes and its width.
 fn push_piece(heap: Global, line: &mut String, bytes: &[u8], width: u8) -> Result<(), Fault> {
     let bytes = hex_text(heap, bytes)?;
