@@ -3,7 +3,7 @@
 
 Run it from the repository's root: python3 tools/height_answers.py
 
-It is made from the rules as docs/layout.md, docs/columns.md and docs/rows.md state them, and not from the
+It is made from the rules as docs/heights.md, docs/columns.md and docs/rows.md state them, and not from the
 code: a row's end is found by trying every place of the line (wrap_answers.py), a table's cells are handed
 out one at a time, and the height of a sheet is counted on a picture of it, one row after another.
 

@@ -1,5 +1,5 @@
 #!/usr/bin/env python3
-"""Answers for loading a sheet, by the rules of docs/load-checks.md and docs/load-fold.md, for the tests
+"""Answers for loading a sheet, by the rules of docs/load.md, for the tests
 to compare with.
 
 Written from the rules alone, in another language and over lists: nothing is shared with the Rattle code
