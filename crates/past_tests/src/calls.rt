@@ -152,7 +152,7 @@ fn draw_piece(
     Ok(())
 }
 
-// An event changed in one of five ways.
+// An event with another kind, length or column count, or another event in its place.
 fn changed(old: Event, damage: u16, other: Event, number: u16) -> Event {
     match damage {
         0 => Event {
@@ -172,7 +172,8 @@ fn changed(old: Event, damage: u16, other: Event, number: u16) -> Event {
     }
 }
 
-// Changes an event from a place on, or leaves a mark open; tells how much of the text there is.
+// Changes one of the events of a load, which begin at a place, or leaves a mark open, or takes most of the text
+// away; tells how much of the text there is.
 fn damage(
     generator: &mut Generator,
     events: &mut Vec<Event>,
@@ -261,7 +262,7 @@ fn draw_question(generator: &mut Generator) -> Call {
     Call::Table(rule, usize::from(number), width, before)
 }
 
-// An area whose numbers are below these, and so much above those.
+// An area whose corner lies at `low` or behind it; what is drawn of each number is below one of `most`.
 fn draw_in(generator: &mut Generator, low: (u16, u16), most: [u16; 4]) -> Area {
     let x = low.0.saturating_add(generator.below(most[0]));
     let y = low.1.saturating_add(generator.below(most[1]));
