@@ -1,8 +1,5 @@
 -- Byte strings read pair by pair.
-use Rattle.std.proofs.Common.{◌≡◌, ℕ, ◌+◌, ◌-◌, ◌*◌, ◌/◌, ◌%◌, ◌^◌, ◌<◌, ◌≤◌, Bool, true, false, cond, ◌&&◌, eqb, List, [], ◌∷◌, ◌++◌, length, get_or, take, drop, Some, None, Ok, Err, Result, sym, refl, ap, ◌∙◌, append_assoc, arith}
-use Rattle.std.specs.Fmt.{digit_glyph, digits, format_spec, padded_integral}
-use Rattle.std.proofs.lemmas.Bool.Decides.{nat_tests}
-use Rattle.std.proofs.lemmas.Fmt.{hex_byte}
+use Rattle.std.proofs.Common.{◌≡◌, ℕ, ◌+◌, ◌-◌, ◌*◌, ◌/◌, ◌%◌, ◌<◌, ◌≤◌, Bool, true, false, cond, ◌&&◌, eqb, List, [], ◌∷◌, ◌++◌, length, get_or, take, drop, Some, None, Ok, Err, Result, sym, refl, ap, ◌∙◌, append_assoc, arith}
 use Rattle.std.proofs.lemmas.List.{flat_map_more, take_more, take_all}
 use Rattle.words.specs.declared.faults.Fault.{Fault}
 use Rattle.words.specs.declared.faults.Fault.TheVariants.{NotBytes, TooManyWords}
@@ -41,14 +38,16 @@ never_ended (c ∷ cs) = one (eqb c 32) (words_of cs)
     one false [] = refl
     one false (w ∷ ws) = refl
 
-digit_same : (n : ℕ) → digit_glyph false n ≡ hex_digit n
-digit_same n = grind (arith, nat_tests)
+-- two bytes written one after the other
+pub two_pushed : (a b c ex ey : List ℕ) (x y v w : ℕ) → b ≡ a ++ ex → ex ≡ x ∷ [] → x ≡ v → c ≡ b ++ ey → ey ≡ y ∷ [] → y ≡ w → c ≡ a ++ (v ∷ w ∷ [])
+two_pushed a b c ex ey x y v w p q r s t u =
+    s ∙ (ap (λ (l : List ℕ). b ++ l) (t ∙ ap (λ n. n ∷ []) u)
+    ∙ (ap (λ (l : List ℕ). l ++ (w ∷ [])) (p ∙ ap (λ (l : List ℕ). a ++ l) (q ∙ ap (λ n. n ∷ []) r)) ∙ append_assoc a (v ∷ []) (w ∷ [])))
 
 -- a byte more is written behind the first i bytes
-pub hexed_more : (bs before after : List ℕ) (i : ℕ) → i < length bs → get_or bs i 0 < 256 → before ≡ hex_of (take i bs)
-    → after ≡ before ++ padded_integral (format_spec 32 0 4 2 (2 ^ 64 - 1)) false [] (digits 16 false (get_or bs i 0)) → after ≡ hex_of (take (i + 1) bs)
-hexed_more bs before after i h byte e f =
+pub hexed_more : (bs before after : List ℕ) (i : ℕ) → i < length bs → before ≡ hex_of (take i bs)
+    → after ≡ before ++ (hex_digit (get_or bs i 0 / 16) ∷ hex_digit (get_or bs i 0 % 16) ∷ []) → after ≡ hex_of (take (i + 1) bs)
+hexed_more bs before after i h e f =
     let n = get_or bs i 0 in
     let pair : ℕ → List ℕ = λ b. hex_digit (b / 16) ∷ hex_digit (b % 16) ∷ [] in
-    f ∙ (ap (λ (l : List ℕ). before ++ l) (rw (hex_byte false n byte, digit_same (n / 16), digit_same (n % 16)))
-    ∙ (ap (λ (l : List ℕ). l ++ pair n) e ∙ (flat_map_more pair [] (take i bs) n ∙ ap hex_of (sym (take_more bs i 0 h)))))
+    f ∙ (ap (λ (l : List ℕ). l ++ pair n) e ∙ (flat_map_more pair [] (take i bs) n ∙ ap hex_of (sym (take_more bs i 0 h))))

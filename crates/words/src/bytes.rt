@@ -1,6 +1,6 @@
 // Words that are byte strings: pairs of lowercase hexadecimal digits, or `-` for the empty string.
-ghost use Rattle.std.specs.Prelude.{◌≡◌, ◌+◌, ◌*◌, ◌&&◌, IfOk, if◌then◌else◌, Some, None, vec_items, string_bytes};
-ghost use Rattle.words.specs.Bytes.{is_hex, hex_value, hex_in, bytes_in, hex_of, hex_text};
+ghost use Rattle.std.specs.Prelude.{◌≡◌, ◌+◌, ◌*◌, ◌/◌, ◌%◌, ◌<◌, ◌&&◌, [], ◌∷◌, ◌++◌, IfOk, if◌then◌else◌, Some, None, vec_items, string_bytes, OnOk};
+ghost use Rattle.words.specs.Bytes.{is_hex, hex_value, hex_in, bytes_in, hex_digit, hex_of, hex_text};
 ghost use Rattle.words.specs.Outcomes.{Gives};
 
 use crate::faults::*;
@@ -52,12 +52,29 @@ pub fn bytes(heap: Global, word: &str) -> Result<Vec<u8>, Fault>
     }
 }
 
+fn hex_digit(value: u8) -> char
+    requires { value < 16 }
+    ensures value { result ≡ hex_digit value }
+    ensures bound { result < 128 }
+{
+    char::from_digit(u32::from(value), 16).unwrap()
+}
+
+// A byte as two hexadecimal digits behind a text.
+fn push_byte(text: &mut String, byte: u8) -> Result<(), Fault>
+    ensures { OnOk result (string_bytes text.new ≡ string_bytes text.old ++ (hex_digit (byte / 16) ∷ hex_digit (byte % 16) ∷ [])) }
+{
+    text.push(hex_digit(byte / 16))?;
+    text.push(hex_digit(byte % 16))?;
+    Ok(())
+}
+
 fn hex_of(heap: Global, bytes: &[u8]) -> Result<String, Fault>
     ensures { IfOk result (λ s. string_bytes s ≡ hex_of bytes.now) }
 {
     let mut text = String::new(heap);
     for b in bytes {
-        write!(text, "{b:02x}")?;
+        push_byte(&mut text, *b)?;
     }
     Ok(text)
 }
