@@ -24,8 +24,13 @@ impl Widths<'_> {
         ensures most { (k : ℕ) → k < length self.now.cells.now → slice_index self.now.cells.now k ≤ slice_index self.now.cells.now result }
         ensures rightmost { (k : ℕ) → result < k → k < length self.now.cells.now → slice_index self.now.cells.now k < slice_index self.now.cells.now result }
     {
-        let most = *self.cells.iter().max().unwrap();
-        self.cells.iter().rposition(|w| *w == most).unwrap()
+        let mut best = 0;
+        for (i, w) in self.cells.iter().enumerate() {
+            if *w >= self.cells[best] {
+                best = i;
+            }
+        }
+        best
     }
 
     // Takes one cell from the widest column, and tells whether it had one to give.
