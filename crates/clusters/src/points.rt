@@ -1,6 +1,6 @@
 // Code points read from the bytes that spell them. Bytes that are no text spell something too: what
 // `chars` of the standard library says of them.
-ghost use Rattle.std.specs.Prelude.{◌≡◌, ◌+◌, ◌-◌, ◌*◌, ◌^◌, ◌<◌, ◌≤◌, [], ◌∷◌, MatchOption};
+ghost use Rattle.std.specs.Prelude.{◌≡◌, ℕ, ◌+◌, ◌-◌, ◌*◌, ◌^◌, ◌<◌, ◌≤◌, [], ◌∷◌, length, drop, MatchOption, IfSome};
 ghost use Rattle.std.specs.Char.{len_utf8};
 ghost use Rattle.std.specs.Str.{chars, lead_bits};
 
@@ -35,6 +35,7 @@ fn more(code: u32, b: u8) -> u32
 // The first code point, and the bytes behind it, if its bytes are all there.
 fn split_first(bytes: &[u8]) -> Option<(u32, &[u8])>
     ensures cases { MatchOption result (chars bytes.now ≡ []) (λ p. chars bytes.now ≡ p.0 ∷ chars p.1.now) }
+    ensures behind { IfSome result (λ p. (n : ℕ) × (n ≤ length bytes.now) × (p.1.now ≡ drop n bytes.now)) }
 {
     match *bytes {
         [a, ref rest @ ..] if a < 0x80 => Some((lead(a), rest)),

@@ -17,6 +17,8 @@ const FIRST_MARK: u32 = 0x300;
 
 const LAST_MARK: u32 = 0x36F;
 
+const FIRST_PRINTABLE: u32 = 0x20;
+
 // All code points that do not take one column, in ascending order.
 const RANGES: [Range; 17] = [
     (0, LAST_C0, 0),
@@ -87,5 +89,9 @@ pub fn columns(code: u32) -> u8
     ensures ascends { ascends 0 table ≡ true }
     ensures apart { Apart (zero_width ++ wide) }
 {
-    look_up(ranges(), code)
+    match code {
+        // most text: printable ASCII stands in no range
+        FIRST_PRINTABLE..DELETE => 1,
+        _ => look_up(ranges(), code),
+    }
 }

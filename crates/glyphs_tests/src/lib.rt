@@ -4,7 +4,7 @@
 #![tactic(auto)]
 
 use clusters::columns;
-use glyphs::{Bytes, Clusters, Glyph, Ruler, Utf8, count_glyphs, sanitize};
+use glyphs::{Bytes, Clusters, Glyph, Ruler, Utf8, count_glyphs, cut_at, sanitize};
 use style::{Style, Symbol};
 
 // Whether a ruler admits a text and cuts it into clusters of these lengths and widths.
@@ -69,6 +69,19 @@ mod tests {
         let mut bytes = [0u8; 4];
         let text = c.encode_utf8(&mut bytes).as_bytes();
         columns(code) == width && cuts_into(&Utf8, text, &[(text.len(), width)])
+    }
+
+    #[test]
+    fn a_cluster_is_cut_out_at_a_place(rt: HostRuntime) {
+        // two letters, the second with an accent of its own, and a wide character
+        let text = "ae\u{301}緑".as_bytes();
+        let cut = cut_at(&Utf8, text, 1);
+        assert!(rt; cut.is_some_and(|c| c.bytes == b"e\xCC\x81".as_slice() && c.width == 1));
+        let cut = cut_at(&Utf8, text, 4);
+        assert!(rt; cut.is_some_and(|c| c.bytes == b"\xE7\xB7\x91".as_slice() && c.width == 2));
+        let cut = cut_at(&Bytes, text, 4);
+        assert!(rt; cut.is_some_and(|c| c.bytes == b"\xE7".as_slice()));
+        assert!(rt; cut_at(&Utf8, text, 7).is_none());
     }
 
     #[test]

@@ -3,8 +3,11 @@ use Rattle.clusters.specs.Widths.{looked}
 use Rattle.clusters.proofs.Ranges.{looked-table, widths-apart}
 use Rattle.clusters.proofs.widths.columns.Goals as goal
 
-pub returns-clause-value : goal.returns-clause-value
-returns-clause-value c = c.look_up.ensures.value ∙ ap (λ l. looked l c.args.code) c.ranges-2.ensures.value ∙ looked-table c.args.code
+pub returns-in-32-to-126-clause-apart : goal.returns-in-32-to-126-clause-apart
+returns-in-32-to-126-clause-apart c = widths-apart
 
-pub returns-clause-apart : goal.returns-clause-apart
-returns-clause-apart c = widths-apart
+pub returns-in_default-clause-value : goal.returns-in_default-clause-value
+returns-in_default-clause-value c = c.look_up.ensures.value ∙ ap (λ l. looked l c.args.code) c.ranges-in_default.ensures.value ∙ looked-table c.args.code
+
+pub returns-in_default-clause-apart : goal.returns-in_default-clause-apart
+returns-in_default-clause-apart c = widths-apart
